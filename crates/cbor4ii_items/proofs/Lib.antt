@@ -24,4 +24,3 @@ pub mod CowRows
 pub mod SequenceAnswers
 pub mod NextByte
 pub mod Shortest
-pub mod ItemOrEnd

@@ -1,5 +1,5 @@
 -- Values that stand whole in what is shown.
-use Rattle.std.proofs.Common.{◌≡◌, ℕ, suc, ◌^◌, ◌≤◌, List, [], ◌++◌, length, take, drop, Ok, refl}
+use Rattle.std.proofs.Common.{◌≡◌, ℕ, suc, ◌^◌, ◌≤◌, List, [], ◌++◌, take, drop, Ok, refl}
 use Rattle.std.proofs.Common.{sym, ap, ◌∙◌, subst, arith, w64, length-append, append_assoc}
 use Rattle.std.specs.Prelude.{ℤ, pos, negsuc, FitsSigned}
 use Rattle.std.proofs.lemmas.Int.{to_z-of_z}
@@ -7,7 +7,7 @@ use Rattle.std.proofs.lemmas.List.{take-append-drop, take-append-le, drop-append
 use mir.Val.{to_z, of_z}
 use mir.Syntax.{Width}
 use Rattle.cbor4ii_items.specs.Decoding.{Reads}
-use Rattle.cbor4ii_items.specs.Floats.{StandsWhole, ReadsFloat, float_bytes}
+use Rattle.cbor4ii_items.specs.Floats.{StandsWhole, ReadsFloat}
 use Rattle.cbor4ii_items.specs.Head.{IsBytes}
 use Rattle.cbor4ii_items.specs.Laws.Heads.{read_head}
 use Rattle.cbor4ii_items.specs.Numbers.{ReadsArgument, IsWithin}

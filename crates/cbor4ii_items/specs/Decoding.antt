@@ -1,5 +1,5 @@
 -- What a decoding call answers, where the reader reports its bytes.
-use Rattle.std.specs.Prelude.{◌^◌, ◌<◌, length, ◌≡◌, ℕ, ◌≤◌, ◌⊎◌, Bool, List, drop, None, Some}
+use Rattle.std.specs.Prelude.{◌^◌, ◌<◌, length, ◌≡◌, ℕ, ◌≤◌, ◌⊎◌, Bool, List, drop, Some}
 use Rattle.std.specs.Prelude.{Option, Result, IfSome, IfOk, IfErr, OnOk, IsTrue, true, false}
 use Rattle.std.specs.Prelude.{take, ◌++◌, ◌+◌}
 use Rattle.cbor4ii_rw.specs.View.{View, IfKnown}

@@ -45,3 +45,4 @@ pub mod NumbersOnce
 pub mod StringErrors
 pub mod ContainerErrors
 pub mod SequenceErrors
+pub mod ItemOrEnd

@@ -1,7 +1,7 @@
 use Rattle.std.proofs.Common.{refl, Ok, Err}
 use Rattle.cbor4ii_examples.specs.contracts.event.EventTyped.TheImpl.{ghosts}
-use Rattle.cbor4ii_examples.proofs.LogRows.{answers, decodes_as, end_fails, item_fails}
-use Rattle.cbor4ii_examples.proofs.LogRows.{item_is_next}
+use Rattle.cbor4ii_items.specs.Laws.ItemOrEnd.{end_fails, item_fails, item_is_next}
+use Rattle.cbor4ii_examples.proofs.LogRows.{answers, decodes_as}
 use Rattle.cbor4ii_examples.proofs.log.next_event.Goals as goal
 
 pub returns-in-Ok-clause-decodes : goal.returns-in-Ok-clause-decodes

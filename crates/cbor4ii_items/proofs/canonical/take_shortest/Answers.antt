@@ -10,13 +10,18 @@ returns-then-is_indefinite-clause-runs g c =
     (sym c.is_indefinite.ensures ∙ c.if-is_indefinite.true)
     refl refl refl
 
-pub returns-in_err-argument-clause-runs : goal.returns-in_err-argument-clause-runs
-returns-in_err-argument-clause-runs g c =
+pub returns-in_err-argument : goal.returns-in_err-argument
+returns-in_err-argument g c =
     let p = err_from_is_err_and c.from_residual-in_err-argument.result
     c.from_residual-in_err-argument.ensures.1 in
-    rw (p.1, p.2)
-    (runs_head_err c.args.name.now c.args.major c.in_ok-first.first c.in_ok-first.ensures.runs
-    (sym c.is_indefinite.ensures ∙ c.if-is_indefinite.false) c.in_err-argument.ensures.runs)
+    record {
+      runs =
+          rw (p.1, p.2)
+          (runs_head_err c.args.name.now c.args.major c.in_ok-first.first c.in_ok-first.ensures.runs
+          (sym c.is_indefinite.ensures ∙ c.if-is_indefinite.false) c.in_err-argument.ensures.runs);
+      memory = rw (p.1, p.2) c.in_err-argument.ensures.memory;
+      progress = rw p.1 tt;
+    }
 
 pub returns-then-first-shortest_info-clause-runs : goal.returns-then-first-shortest_info-clause-runs
 returns-then-first-shortest_info-clause-runs g c =
@@ -38,17 +43,6 @@ returns-in_err-first-clause-memory g c =
 pub returns-in_err-first-clause-progress : goal.returns-in_err-first-clause-progress
 returns-in_err-first-clause-progress g c =
     rw (err_from_is_err_and c.from_residual.result c.from_residual.ensures.1).1 tt
-
-pub returns-in_err-argument-clause-memory : goal.returns-in_err-argument-clause-memory
-returns-in_err-argument-clause-memory g c =
-    let p = err_from_is_err_and c.from_residual-in_err-argument.result
-    c.from_residual-in_err-argument.ensures.1 in
-    rw (p.1, p.2) c.in_err-argument.ensures.memory
-
-pub returns-in_err-argument-clause-progress : goal.returns-in_err-argument-clause-progress
-returns-in_err-argument-clause-progress g c =
-    rw (err_from_is_err_and c.from_residual-in_err-argument.result
-    c.from_residual-in_err-argument.ensures.1).1 tt
 
 pub returns-then-first-shortest_info-clause-memory :
     goal.returns-then-first-shortest_info-clause-memory

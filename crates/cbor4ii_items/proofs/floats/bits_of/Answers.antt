@@ -22,11 +22,10 @@ eight (a ∷ b ∷ c ∷ d ∷ e ∷ f ∷ g ∷ []) n size is = absurd (omega a
 eight (a ∷ b ∷ c ∷ d ∷ e ∷ f ∷ g ∷ h ∷ []) n size is = omega (arith, is)
 eight (a ∷ b ∷ c ∷ d ∷ e ∷ f ∷ g ∷ h ∷ i ∷ js) n size is = absurd (omega arith)
 
-pub returns-in-len8-clause-value : goal.returns-in-len8-clause-value
-returns-in-len8-clause-value c =
-    eight c.args.bytes.now _ (omega arith) c.from_be_bytes-in-len8.ensures
-
-pub returns-in-len8-clause-bytes : goal.returns-in-len8-clause-bytes
-returns-in-len8-clause-bytes c =
-    subst IsBytes (take-length c.args.bytes.now)
-    (first_bytes _ _ (λ i. Fits-lt-pow {w = w8} (c.type_inv.bytes i)))
+pub returns-in-len8 : goal.returns-in-len8
+returns-in-len8 c = record {
+  value = eight c.args.bytes.now _ (omega arith) c.from_be_bytes-in-len8.ensures;
+  bytes =
+      subst IsBytes (take-length c.args.bytes.now)
+      (first_bytes _ _ (λ i. Fits-lt-pow {w = w8} (c.type_inv.bytes i)));
+}

@@ -6,14 +6,15 @@ use Rattle.cbor4ii_items.proofs.head.argument.Goals as goal
 pub returns-then-info-lt24-clause-fits : goal.returns-then-info-lt24-clause-fits
 returns-then-info-lt24-clause-fits g c h = small_argument _ _ (omega arith) h
 
-pub returns-clause-fits : goal.returns-clause-fits
-returns-clause-fits g c h =
-    let le : c.following.result ≤ c.args.width =
-    rw c.following.ensures (allowed_le _ _ (sym c.if-not-allowed.ensures)) in
-    wider _ _ _ le c.in_ok-number.ensures.fits
-
-pub returns-clause-runs : goal.returns-clause-runs
-returns-clause-runs g c = search rules
+pub returns : goal.returns
+returns g c = record {
+  fits =
+      λ h. let le : c.following.result ≤ c.args.width =
+      rw c.following.ensures (allowed_le _ _ (sym c.if-not-allowed.ensures)) in
+      wider _ _ _ le c.in_ok-number.ensures.fits;
+  runs = search rules;
+  memory = tt;
+}
 
 pub returns-then-info-lt24-clause-memory : goal.returns-then-info-lt24-clause-memory
 returns-then-info-lt24-clause-memory g c = tt
@@ -32,6 +33,3 @@ returns-in_err-number-clause-memory g c =
 pub returns-in_err-number-clause-fits : goal.returns-in_err-number-clause-fits
 returns-in_err-number-clause-fits g c =
     λ wide. rw (err_from_is_err_and c.from_residual.result c.from_residual.ensures.1).1 tt
-
-pub returns-clause-memory : goal.returns-clause-memory
-returns-clause-memory g c = tt

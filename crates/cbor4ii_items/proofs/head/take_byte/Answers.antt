@@ -3,9 +3,13 @@ use Rattle.std.proofs.lemmas.Result.{err_from_is_err_and}
 use Rattle.std.proofs.Common.{arith}
 use Rattle.cbor4ii_items.proofs.head.take_byte.Goals as goal
 
-pub returns-clause-runs : goal.returns-clause-runs
-returns-clause-runs g c =
-    runs_byte c.in_ok-byte.ensures.runs c.in_ok-byte.ensures.byte c.advance.ensures
+pub returns : goal.returns
+returns g c = record {
+  runs = runs_byte c.in_ok-byte.ensures.runs c.in_ok-byte.ensures.byte c.advance.ensures;
+  memory = tt;
+  byte = c.in_ok-byte.ensures.byte;
+  progress = omega (arith, c.in_ok-byte.ensures.runs.moves.by.bound, c.advance.ensures.bound);
+}
 
 pub returns-in_err-byte-clause-memory : goal.returns-in_err-byte-clause-memory
 returns-in_err-byte-clause-memory g c =
@@ -19,13 +23,3 @@ returns-in_err-byte-clause-byte g c =
 pub returns-in_err-byte-clause-progress : goal.returns-in_err-byte-clause-progress
 returns-in_err-byte-clause-progress g c =
     rw (err_from_is_err_and c.from_residual.result c.from_residual.ensures.1).1 tt
-
-pub returns-clause-memory : goal.returns-clause-memory
-returns-clause-memory g c = tt
-
-pub returns-clause-byte : goal.returns-clause-byte
-returns-clause-byte g c = c.in_ok-byte.ensures.byte
-
-pub returns-clause-progress : goal.returns-clause-progress
-returns-clause-progress g c =
-    omega (arith, c.in_ok-byte.ensures.runs.moves.by.bound, c.advance.ensures.bound)

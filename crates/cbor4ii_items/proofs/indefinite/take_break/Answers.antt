@@ -4,16 +4,14 @@ use Rattle.cbor4ii_items.specs.Laws.Running.{runs_err, runs_byte}
 use Rattle.cbor4ii_items.specs.Laws.ReaderFails.{runs_break}
 use Rattle.cbor4ii_items.proofs.indefinite.take_break.Goals as goal
 
-pub returns-then-byte-clause-runs : goal.returns-then-byte-clause-runs
-returns-then-byte-clause-runs g c =
-    runs_break c.if-byte.true
-    (runs_byte c.in_ok-byte.ensures.runs c.in_ok-byte.ensures.byte c.advance.ensures)
-
-pub returns-then-byte-clause-memory : goal.returns-then-byte-clause-memory
-returns-then-byte-clause-memory g c = tt
-
-pub returns-then-byte-clause-failed : goal.returns-then-byte-clause-failed
-returns-then-byte-clause-failed g c = λ (f : IsTrue false). absurd (cc)
+pub returns-then-byte : goal.returns-then-byte
+returns-then-byte g c = record {
+  runs =
+      runs_break c.if-byte.true
+      (runs_byte c.in_ok-byte.ensures.runs c.in_ok-byte.ensures.byte c.advance.ensures);
+  memory = tt;
+  failed = λ (f : IsTrue false). absurd (cc);
+}
 
 pub returns-in_err-byte-clause-runs : goal.returns-in_err-byte-clause-runs
 returns-in_err-byte-clause-runs g c =

@@ -2,14 +2,10 @@ use Rattle.cbor4ii_items.specs.Laws.LeavesApart.{simple_apart, bool_apart, float
 use Rattle.cbor4ii_items.specs.Laws.LeavesApart.{nothing_apart}
 use Rattle.cbor4ii_items.proofs.laws.rejected_simple_values_are_not_read.Goals as goal
 
-pub returns-clause-simple : goal.returns-clause-simple
-returns-clause-simple c = simple_apart
-
-pub returns-clause-bool : goal.returns-clause-bool
-returns-clause-bool c = bool_apart
-
-pub returns-clause-floats : goal.returns-clause-floats
-returns-clause-floats c = float_apart
-
-pub returns-clause-nothing : goal.returns-clause-nothing
-returns-clause-nothing c = nothing_apart
+pub returns : goal.returns
+returns c = record {
+  simple = simple_apart;
+  bool = bool_apart;
+  floats = float_apart;
+  nothing = nothing_apart;
+}

@@ -1,5 +1,5 @@
 use Rattle.cbor4ii_items.specs.Laws.Running.{look_shows}
-use Rattle.cbor4ii_items.proofs.ItemOrEnd.{runs_end}
+use Rattle.cbor4ii_items.specs.Laws.ItemOrEnd.{runs_end}
 use Rattle.cbor4ii_items.proofs.sequence.is_at_end.Goals as goal
 
 pub returns-in-Some-clause-runs : goal.returns-in-Some-clause-runs

@@ -1,6 +1,6 @@
 use Rattle.std.proofs.lemmas.Result.{err_from_is_err_and}
-use Rattle.cbor4ii_items.proofs.ItemOrEnd.{end_fails, item_fails, item_is_next, none_at_end}
-use Rattle.cbor4ii_items.proofs.ItemOrEnd.{none_is_next}
+use Rattle.cbor4ii_items.specs.Laws.ItemOrEnd.{end_fails, item_fails, item_is_next, none_at_end}
+use Rattle.cbor4ii_items.specs.Laws.ItemOrEnd.{none_is_next}
 use Rattle.cbor4ii_items.proofs.sequence.next_item.Goals as goal
 
 pub returns-in_err-is_at_end-clause-decodes : goal.returns-in_err-is_at_end-clause-decodes

@@ -16,15 +16,17 @@ returns-else-argument-limit-clause-runs g c =
     minus_read c.args.name.now c.args.minus _ _ _ e c.if-argument-limit.false
     (found_some _ _ c.in-Ok-Some.field-0-is (c.in-Ok-Some.ensures.runs c.args.minus.now))
 
-pub returns-in-Ok-None-clause-runs : goal.returns-in-Ok-None-clause-runs
-returns-in-Ok-None-clause-runs g c =
-    runs_stayed (found_none _ _ _ c.in-Ok-None.field-0-is (c.in-Ok-None.ensures.runs []))
-    c.signed_by_bytes.ensures.runs
-
-pub returns-in-Ok-None-clause-progress : goal.returns-in-Ok-None-clause-progress
-returns-in-Ok-None-clause-progress g c =
-    progress_stayed _ _ (found_none _ _ _ c.in-Ok-None.field-0-is (c.in-Ok-None.ensures.runs []))
-    c.signed_by_bytes.ensures.progress
+pub returns-in-Ok-None : goal.returns-in-Ok-None
+returns-in-Ok-None g c = record {
+  runs =
+      runs_stayed (found_none _ _ _ c.in-Ok-None.field-0-is (c.in-Ok-None.ensures.runs []))
+      c.signed_by_bytes.ensures.runs;
+  progress =
+      progress_stayed _ _ (found_none _ _ _ c.in-Ok-None.field-0-is (c.in-Ok-None.ensures.runs []))
+      c.signed_by_bytes.ensures.progress;
+  memory = c.signed_by_bytes.ensures.memory;
+  range = c.signed_by_bytes.ensures.range;
+}
 
 pub returns-in-Err-clause-runs : goal.returns-in-Err-clause-runs
 returns-in-Err-clause-runs g c = runs_broke (c.in-Err.ensures.runs [])
@@ -37,12 +39,6 @@ returns-else-argument-limit-clause-range g c =
     let e = negative_is c.negative.result c.in-Ok-Some.argument
     (omega (arith, c.if-argument-limit.false, c.requires)) c.negative.ensures in
     rw e (omega (arith, c.if-argument-limit.false))
-
-pub returns-in-Ok-None-clause-memory : goal.returns-in-Ok-None-clause-memory
-returns-in-Ok-None-clause-memory g c = c.signed_by_bytes.ensures.memory
-
-pub returns-in-Ok-None-clause-range : goal.returns-in-Ok-None-clause-range
-returns-in-Ok-None-clause-range g c = c.signed_by_bytes.ensures.range
 
 pub returns-in-Err-clause-memory : goal.returns-in-Err-clause-memory
 returns-in-Err-clause-memory g c = refl

@@ -6,19 +6,31 @@ use Rattle.cbor4ii_items.specs.Laws.Running.{runs_err, runs_with}
 use Rattle.cbor4ii_items.proofs.SignedRuns.{runs_positive, runs_negative, positive_is, negative_is}
 use Rattle.cbor4ii_items.proofs.numbers.signed.signed_by_bytes.Goals as goal
 
-pub returns-in_err-argument-in-0-clause-runs : goal.returns-in_err-argument-in-0-clause-runs
-returns-in_err-argument-in-0-clause-runs g c =
+pub returns-in_err-argument-in-0 : goal.returns-in_err-argument-in-0
+returns-in_err-argument-in-0 g c =
     let p = err_from_is_err_and c.from_residual-in_err-argument-in-0.result
     c.from_residual-in_err-argument-in-0.ensures.1 in
-    rw (p.1, p.2) (runs_positive _ _ _ _ _ _ (sym c.if_major.ensures ∙ c.in-0.is)
-    c.in_ok-first.ensures.runs (runs_err as_positive c.in_err-argument-in-0.ensures.runs))
+    record {
+      runs =
+          rw (p.1, p.2) (runs_positive _ _ _ _ _ _ (sym c.if_major.ensures ∙ c.in-0.is)
+          c.in_ok-first.ensures.runs (runs_err as_positive c.in_err-argument-in-0.ensures.runs));
+      memory = rw (p.1, p.2) c.in_err-argument-in-0.ensures.memory;
+      range = rw p.1 tt;
+      progress = rw p.1 tt;
+    }
 
-pub returns-in_err-argument-in-1-clause-runs : goal.returns-in_err-argument-in-1-clause-runs
-returns-in_err-argument-in-1-clause-runs g c =
+pub returns-in_err-argument-in-1 : goal.returns-in_err-argument-in-1
+returns-in_err-argument-in-1 g c =
     let p = err_from_is_err_and c.from_residual-in_err-argument-in-1.result
     c.from_residual-in_err-argument-in-1.ensures.1 in
-    rw (p.1, p.2) (runs_negative _ _ _ _ _ _ (sym c.if_major.ensures ∙ c.in-1.is)
-    c.in_ok-first.ensures.runs (runs_err as_negative c.in_err-argument-in-1.ensures.runs))
+    record {
+      runs =
+          rw (p.1, p.2) (runs_negative _ _ _ _ _ _ (sym c.if_major.ensures ∙ c.in-1.is)
+          c.in_ok-first.ensures.runs (runs_err as_negative c.in_err-argument-in-1.ensures.runs));
+      memory = rw (p.1, p.2) c.in_err-argument-in-1.ensures.memory;
+      range = rw p.1 tt;
+      progress = rw p.1 tt;
+    }
 
 pub returns-in_ok-argument-in-0-clause-runs : goal.returns-in_ok-argument-in-0-clause-runs
 returns-in_ok-argument-in-0-clause-runs g c =
@@ -34,55 +46,15 @@ returns-in_ok-argument-in-1-clause-runs g c =
     runs_negative _ _ _ _ _ _ (sym c.if_major.ensures ∙ c.in-1.is) c.in_ok-first.ensures.runs
     (runs_with negsuc e c.in_ok-argument-in-1.ensures.runs)
 
-pub returns-in_err-first-clause-runs : goal.returns-in_err-first-clause-runs
-returns-in_err-first-clause-runs g c =
+pub returns-in_err-first : goal.returns-in_err-first
+returns-in_err-first g c =
     let p = err_from_is_err_and c.from_residual.result c.from_residual.ensures.1 in
-    rw (p.1, p.2) (runs_err _ c.in_err-first.ensures.runs)
-
-pub returns-in_err-first-clause-memory : goal.returns-in_err-first-clause-memory
-returns-in_err-first-clause-memory g c =
-    let p = err_from_is_err_and c.from_residual.result c.from_residual.ensures.1 in
-    rw (p.1, p.2) c.in_err-first.ensures.memory
-
-pub returns-in_err-first-clause-range : goal.returns-in_err-first-clause-range
-returns-in_err-first-clause-range g c =
-    rw (err_from_is_err_and c.from_residual.result c.from_residual.ensures.1).1 tt
-
-pub returns-in_err-first-clause-progress : goal.returns-in_err-first-clause-progress
-returns-in_err-first-clause-progress g c =
-    rw (err_from_is_err_and c.from_residual.result c.from_residual.ensures.1).1 tt
-
-pub returns-in_err-argument-in-0-clause-memory : goal.returns-in_err-argument-in-0-clause-memory
-returns-in_err-argument-in-0-clause-memory g c =
-    let p = err_from_is_err_and c.from_residual-in_err-argument-in-0.result
-    c.from_residual-in_err-argument-in-0.ensures.1 in
-    rw (p.1, p.2) c.in_err-argument-in-0.ensures.memory
-
-pub returns-in_err-argument-in-0-clause-range : goal.returns-in_err-argument-in-0-clause-range
-returns-in_err-argument-in-0-clause-range g c =
-    rw (err_from_is_err_and c.from_residual-in_err-argument-in-0.result
-    c.from_residual-in_err-argument-in-0.ensures.1).1 tt
-
-pub returns-in_err-argument-in-0-clause-progress : goal.returns-in_err-argument-in-0-clause-progress
-returns-in_err-argument-in-0-clause-progress g c =
-    rw (err_from_is_err_and c.from_residual-in_err-argument-in-0.result
-    c.from_residual-in_err-argument-in-0.ensures.1).1 tt
-
-pub returns-in_err-argument-in-1-clause-memory : goal.returns-in_err-argument-in-1-clause-memory
-returns-in_err-argument-in-1-clause-memory g c =
-    let p = err_from_is_err_and c.from_residual-in_err-argument-in-1.result
-    c.from_residual-in_err-argument-in-1.ensures.1 in
-    rw (p.1, p.2) c.in_err-argument-in-1.ensures.memory
-
-pub returns-in_err-argument-in-1-clause-range : goal.returns-in_err-argument-in-1-clause-range
-returns-in_err-argument-in-1-clause-range g c =
-    rw (err_from_is_err_and c.from_residual-in_err-argument-in-1.result
-    c.from_residual-in_err-argument-in-1.ensures.1).1 tt
-
-pub returns-in_err-argument-in-1-clause-progress : goal.returns-in_err-argument-in-1-clause-progress
-returns-in_err-argument-in-1-clause-progress g c =
-    rw (err_from_is_err_and c.from_residual-in_err-argument-in-1.result
-    c.from_residual-in_err-argument-in-1.ensures.1).1 tt
+    record {
+      runs = rw (p.1, p.2) (runs_err _ c.in_err-first.ensures.runs);
+      memory = rw (p.1, p.2) c.in_err-first.ensures.memory;
+      range = rw p.1 tt;
+      progress = rw p.1 tt;
+    }
 
 pub returns-in_ok-argument-in-0-clause-range : goal.returns-in_ok-argument-in-0-clause-range
 returns-in_ok-argument-in-0-clause-range g c =
