@@ -4,7 +4,7 @@ use Rattle.std.proofs.Common.{sym, ap, ◌∙◌, subst, arith, w64, length-appe
 use Rattle.std.specs.Prelude.{ℤ, pos, negsuc, FitsSigned}
 use Rattle.std.proofs.lemmas.Int.{to_z-of_z}
 use Rattle.std.proofs.lemmas.List.{take-append-drop, take-append-le, drop-append-le}
-use mir.Val.{to_z, of_z}
+use mir.Val.{to_z, of_z, hbits}
 use mir.Syntax.{Width}
 use Rattle.cbor4ii_items.specs.Decoding.{Reads}
 use Rattle.cbor4ii_items.specs.Floats.{StandsWhole, ReadsFloat}
@@ -59,15 +59,26 @@ whole_float_shown {marker = marker} {count = count} {bits = bits} {shown = shown
 
 -- ---- numbers, cast to fewer bits
 
-pub wide_is : (limit : ℕ) (z : ℤ) → limit ≤ 2 ^ 63 → IsWithin limit z
+wide_is : (limit : ℕ) (z : ℤ) → limit ≤ 2 ^ 63 → IsWithin limit z
     → to_z w64 (of_z w64 z) ≡ z
 wide_is limit (pos k) small h = to_z-of_z w64 (pos k) (record { sfits = omega (arith, h, small) })
 wide_is limit (negsuc k) small h =
     to_z-of_z w64 (negsuc k) (record { sfits = omega (arith, h, small) })
 
-pub cast_is : (w : Width) (z : ℤ) → FitsSigned w z → to_z w64 (of_z w64 z) ≡ z
+within_fits : (w : Width) (z : ℤ) → IsWithin (2 ^ hbits w) z → FitsSigned w z
+within_fits w (pos k) h = record { sfits = h }
+within_fits w (negsuc k) h = record { sfits = h }
+
+pub cast_fits : (w : Width) (z : ℤ) → 2 ^ hbits w ≤ 2 ^ 63 → IsWithin (2 ^ hbits w) z
+    → FitsSigned w (to_z w64 (of_z w64 z))
+cast_fits w z small h =
+    subst (FitsSigned w) (sym (wide_is (2 ^ hbits w) z small h)) (within_fits w z h)
+
+pub cast_is : (w : Width) (z : ℤ) → 2 ^ hbits w ≤ 2 ^ 63 → IsWithin (2 ^ hbits w) z
     → z ≡ to_z w (of_z w (to_z w64 (of_z w64 z)))
-cast_is w z fits wide = sym (ap (λ y. to_z w (of_z w y)) wide ∙ to_z-of_z w z fits)
+cast_is w z small h =
+    sym (ap (λ y. to_z w (of_z w y)) (wide_is (2 ^ hbits w) z small h)
+    ∙ to_z-of_z w z (within_fits w z h))
 
 pub shown_as : {V : Type 0} {reads : Reads V} {shown : List ℕ} {v w : V} {n : ℕ} (steps : ℕ)
     → v ≡ w → IsShownLeaf reads shown 0 (v, n) → IsShownLeaf reads shown steps (w, n)

@@ -15,7 +15,7 @@ use Rattle.cbor4ii_rw.specs.declared.read.Reference.TheVariants.{Long}
 use Rattle.cbor4ii_rw.specs.Reader.{Shows, ReaderFails, Advances, IsPrefix, counts}
 use Rattle.cbor4ii_rw.specs.View.{IfKnown, place_of}
 use Rattle.cbor4ii_items.specs.Head.{IsBytes}
-use Rattle.cbor4ii_items.specs.Moves.{Took}
+use Rattle.cbor4ii_items.specs.Moves.{Kept, Took}
 use Rattle.cbor4ii_items.specs.InputError.{eof, len_of}
 use Rattle.cbor4ii_items.specs.Reading.{Reading, Reaches, Runs}
 use Rattle.cbor4ii_items.specs.Contents.{TakesOnto}
@@ -138,6 +138,29 @@ counts_prefix n xs ys a m b h e first second k gone =
     let same : n ≡ k = omega (arith, h, gone, ap length e, length-drop n xs) in
     second ∙ ap₂ counts same first
 
+-- what was shown, and a part of it taken, is a reader's move
+prefix_kept : {want n : ℕ} {shown : List ℕ} {a m b : View} → Shows shown a m
+    → IfKnown a.known (IsPrefix want shown) → n ≤ length shown → IsBytes (take n shown)
+    → Advances n m b → Kept a b
+prefix_kept {want = want} {n = n} {shown = shown} {a = a} {m = m} {b = b} s prefix within fresh
+    adv = record {
+      rest = λ xs known. (
+        n,
+        took_prefix want n shown xs b.known (prefix xs known) within fresh
+            (adv.known xs (s.known xs known)),
+      );
+      counted = λ xs known ys left k gone.
+          let e : ys ≡ drop n xs = let d = adv.known xs (s.known xs known) in cc in
+          counts_prefix n xs ys a m b (omega (arith, within, (prefix xs known).within)) e s.taken
+          adv.taken k gone;
+      bound = omega (arith, s.bound, adv.bound);
+      budget = adv.budget ∙ s.budget;
+      failures = adv.failures ∙ s.failures;
+      zero_copy = λ h. adv.zero_copy (s.zero_copy h);
+      remembers = λ h. adv.remembers (s.remembers h);
+      ends_at = adv.ends_at ∙ s.ends_at;
+    }
+
 pub takes_prefix : {want missing n : ℕ} {shown before after : List ℕ} {a m b : View}
     → Shows shown a m → IfKnown a.known (IsPrefix want shown) → 1 ≤ n → n ≤ missing
     → n ≤ length shown → IsBytes after → after ≡ before ++ take n shown → Advances n m b
@@ -147,23 +170,7 @@ takes_prefix {want = want} {missing = missing} {n = n} {shown = shown} {before =
     let fresh : IsBytes (take n shown) =
     IsBytes-append before (take n shown) (subst IsBytes is bytes) in
     record {
-      kept = record {
-        rest = λ xs known. (
-          n,
-          took_prefix want n shown xs b.known (prefix xs known) within fresh
-              (adv.known xs (s.known xs known)),
-        );
-        counted = λ xs known ys left k gone.
-            let e : ys ≡ drop n xs = let d = adv.known xs (s.known xs known) in cc in
-            counts_prefix n xs ys a m b (omega (arith, within, (prefix xs known).within)) e s.taken
-            adv.taken k gone;
-        bound = omega (arith, s.bound, adv.bound);
-        budget = adv.budget ∙ s.budget;
-        failures = adv.failures ∙ s.failures;
-        zero_copy = λ h. adv.zero_copy (s.zero_copy h);
-        remembers = λ h. adv.remembers (s.remembers h);
-        ends_at = adv.ends_at ∙ s.ends_at;
-      };
+      kept = prefix_kept s prefix within fresh adv;
       some = some;
       most = most;
       at = λ xs known. (
@@ -188,23 +195,7 @@ pub lends_prefix : {want n : ℕ} {shown content : List ℕ} {a m b : View} → 
     → content ≡ take n shown → Advances n m b → Lends n content a b
 lends_prefix {want = want} {n = n} {shown = shown} {a = a} {m = m}
     {b = b} s prefix within fresh is adv = record {
-      kept = record {
-        rest = λ xs known. (
-          n,
-          took_prefix want n shown xs b.known (prefix xs known) within fresh
-              (adv.known xs (s.known xs known)),
-        );
-        counted = λ xs known ys left k gone.
-            let e : ys ≡ drop n xs = let d = adv.known xs (s.known xs known) in cc in
-            counts_prefix n xs ys a m b (omega (arith, within, (prefix xs known).within)) e s.taken
-            adv.taken k gone;
-        bound = omega (arith, s.bound, adv.bound);
-        budget = adv.budget ∙ s.budget;
-        failures = adv.failures ∙ s.failures;
-        zero_copy = λ h. adv.zero_copy (s.zero_copy h);
-        remembers = λ h. adv.remembers (s.remembers h);
-        ends_at = adv.ends_at ∙ s.ends_at;
-      };
+      kept = prefix_kept s prefix within fresh adv;
       at = λ xs known. (
         omega (arith, within, (prefix xs known).within),
         adv.known xs (s.known xs known),

@@ -43,7 +43,3 @@ returns-in_err-first-clause-memory g c =
 pub returns-in_err-first-clause-progress : goal.returns-in_err-first-clause-progress
 returns-in_err-first-clause-progress g c =
     rw (err_from_is_err_and c.from_residual.result c.from_residual.ensures.1).1 tt
-
-pub returns-then-first-shortest_info-clause-memory :
-    goal.returns-then-first-shortest_info-clause-memory
-returns-then-first-shortest_info-clause-memory g c = refl

@@ -3,6 +3,3 @@ use Rattle.cbor4ii_items.proofs.floats.seen_float.Goals as goal
 
 pub returns-in-Whole-clause-stands : goal.returns-in-Whole-clause-stands
 returns-in-Whole-clause-stands c = whole_float_shown c.in-Whole.ensures.0 c.in-Whole.ensures.1
-
-pub returns-in-Whole-clause-fits : goal.returns-in-Whole-clause-fits
-returns-in-Whole-clause-fits c = c.in-Whole.ensures.1.fits

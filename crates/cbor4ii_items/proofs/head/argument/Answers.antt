@@ -16,15 +16,6 @@ returns g c = record {
   memory = tt;
 }
 
-pub returns-then-info-lt24-clause-memory : goal.returns-then-info-lt24-clause-memory
-returns-then-info-lt24-clause-memory g c = tt
-
-pub returns-then-not-allowed-clause-memory : goal.returns-then-not-allowed-clause-memory
-returns-then-not-allowed-clause-memory g c = refl
-
-pub returns-then-not-allowed-clause-fits : goal.returns-then-not-allowed-clause-fits
-returns-then-not-allowed-clause-fits g c = λ wide. tt
-
 pub returns-in_err-number-clause-memory : goal.returns-in_err-number-clause-memory
 returns-in_err-number-clause-memory g c =
     let p = err_from_is_err_and c.from_residual.result c.from_residual.ensures.1 in

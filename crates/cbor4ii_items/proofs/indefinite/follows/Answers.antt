@@ -23,6 +23,3 @@ returns-in-Some-eq0-clause-decodes g c = definite_follows false c.in-Some-eq0.is
 
 pub returns-in-Some-clause-decodes : goal.returns-in-Some-clause-decodes
 returns-in-Some-clause-decodes g c = definite_follows true c.in-Some.is (search rules)
-
-pub returns-in-Some-clause-left : goal.returns-in-Some-clause-left
-returns-in-Some-clause-left g c = rw c.in-Some.is refl

@@ -14,6 +14,3 @@ returns-in-Some c =
     rw c.in-Some.ensures.size
     (whole_after _ _ _ _ c.in-len1-up.len_at_least (omega (arith, byte)) c.if-first-major.false
     c.if-info-lt24.false (sym c.if-not-allowed.ensures) c.in-Some.ensures.some)
-
-pub returns-in-None : goal.returns-in-None
-returns-in-None c = tt

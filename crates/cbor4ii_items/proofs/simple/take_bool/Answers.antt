@@ -3,9 +3,6 @@ use Rattle.cbor4ii_items.specs.Laws.Running.{runs_err}
 use Rattle.std.proofs.Common.{rules}
 use Rattle.cbor4ii_items.proofs.simple.take_bool.Goals as goal
 
-pub returns-clause-runs : goal.returns-clause-runs
-returns-clause-runs g c = search rules
-
 pub returns-in_err-byte-clause-runs : goal.returns-in_err-byte-clause-runs
 returns-in_err-byte-clause-runs g c =
     let p = err_from_is_err_and c.from_residual.result c.from_residual.ensures.1 in

@@ -28,9 +28,3 @@ returns-in-Ok-None-clause-progress g c =
 
 pub returns-in-Err-clause-runs : goal.returns-in-Err-clause-runs
 returns-in-Err-clause-runs g c = runs_broke (c.in-Err.ensures.runs [])
-
-pub returns-else-argument-limit-clause-range : goal.returns-else-argument-limit-clause-range
-returns-else-argument-limit-clause-range g c = search rules
-
-pub returns-in-Ok-None-clause-range : goal.returns-in-Ok-None-clause-range
-returns-in-Ok-None-clause-range g c = c.signed_below_zero.ensures.range

@@ -31,14 +31,8 @@ returns-in-Ok-None g c = record {
 pub returns-in-Err-clause-runs : goal.returns-in-Err-clause-runs
 returns-in-Err-clause-runs g c = runs_broke (c.in-Err.ensures.runs [])
 
-pub returns-then-argument-limit-clause-memory : goal.returns-then-argument-limit-clause-memory
-returns-then-argument-limit-clause-memory g c = refl
-
 pub returns-else-argument-limit-clause-range : goal.returns-else-argument-limit-clause-range
 returns-else-argument-limit-clause-range g c =
     let e = negative_is c.negative.result c.in-Ok-Some.argument
     (omega (arith, c.if-argument-limit.false, c.requires)) c.negative.ensures in
     rw e (omega (arith, c.if-argument-limit.false))
-
-pub returns-in-Err-clause-memory : goal.returns-in-Err-clause-memory
-returns-in-Err-clause-memory g c = refl

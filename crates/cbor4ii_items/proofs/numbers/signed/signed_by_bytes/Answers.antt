@@ -67,14 +67,3 @@ returns-in_ok-argument-in-1-clause-range g c =
     let e = negative_is c.negative.result c.in_ok-argument-in-1.argument
     (omega (arith, c.in_ok-argument-in-1.ensures.below, c.requires)) c.negative.ensures in
     rw e c.in_ok-argument-in-1.ensures.below
-
-pub returns-in_ok-argument-in-0-clause-progress : goal.returns-in_ok-argument-in-0-clause-progress
-returns-in_ok-argument-in-0-clause-progress g c =
-    omega (arith, c.in_ok-argument-in-0.ensures.progress, c.in_ok-first.ensures.runs.moves.by.bound)
-
-pub returns-in_ok-argument-in-1-clause-progress : goal.returns-in_ok-argument-in-1-clause-progress
-returns-in_ok-argument-in-1-clause-progress g c =
-    omega (arith, c.in_ok-argument-in-1.ensures.progress, c.in_ok-first.ensures.runs.moves.by.bound)
-
-pub returns-in_default-clause-memory : goal.returns-in_default-clause-memory
-returns-in_default-clause-memory g c = refl

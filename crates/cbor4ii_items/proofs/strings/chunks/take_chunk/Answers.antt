@@ -6,9 +6,3 @@ pub returns-clause-runs : goal.returns-clause-runs
 returns-clause-runs g c =
     chunk_runs _ _ _ c.if-not-step_in.ensures.budget c.step_in.ensures.others
     c.take_chunk_inside-outcome.ensures.runs c.step_out.ensures.budget c.step_out.ensures.others
-
-pub returns-then-not-step_in-clause-runs : goal.returns-then-not-step_in-clause-runs
-returns-then-not-step_in-clause-runs g c = search rules
-
-pub returns-then-not-step_in-clause-progress : goal.returns-then-not-step_in-clause-progress
-returns-then-not-step_in-clause-progress g c = tt

@@ -11,6 +11,3 @@ returns-else-is_err-clause-taken g c =
     (omega (arith, c.min-count.ensures))
     (IsBytes-from _ c.type_inv.content)
     (rw c.if-is_err.ensures.negation at c.extend_from_slice.ensures.items) c.advance.ensures
-
-pub returns-then-count-eq0-clause-rejected : goal.returns-then-count-eq0-clause-rejected
-returns-then-count-eq0-clause-rejected g c = search rules

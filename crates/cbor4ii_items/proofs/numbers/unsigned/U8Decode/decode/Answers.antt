@@ -5,6 +5,3 @@ pub returns-in_err-lone_head : goal.returns-in_err-lone_head
 returns-in_err-lone_head g c =
     let p = err_from_is_err_and c.from_residual.result c.from_residual.ensures.1 in
     rw (p.1, p.2) c.in_err-lone_head.ensures.decodes
-
-pub returns : goal.returns
-returns g c = c.in_ok-lone_head.ensures.decodes
