@@ -46,3 +46,4 @@ pub mod StringErrors
 pub mod ContainerErrors
 pub mod SequenceErrors
 pub mod ItemOrEnd
+pub mod Lawful

@@ -7,6 +7,7 @@ use Rattle.std.proofs.lemmas.List.{length-drop}
 use Rattle.cbor4ii_items.specs.Containers.{BeginsNull, ReadsOption, SameOption, RejectsOption}
 use Rattle.cbor4ii_items.specs.Containers.{ReadsTag, RejectsTag}
 use Rattle.cbor4ii_items.specs.declared.types.Tag.{Tag}
+use Rattle.cbor4ii_items.specs.Laws.Lawful.{IsOneReading, StaysWithin, TakesSome}
 use Rattle.cbor4ii_items.specs.Decoding.{Format, IsLawful, format_by, taking_memory}
 use Rattle.cbor4ii_items.specs.Laws.Formats.{lawful_by, lawful_in_memory}
 use Rattle.std.specs.declared.alloc.Global.{Global}
@@ -32,8 +33,7 @@ pub no_option : {V : Type 0} (reads : Reads V) (xs : List ℕ) (old new : Option
 no_option reads xs old new e n h None k c r fits = n r.0
 no_option reads xs old new e n h (Some v) k c r fits = h v k c r.2 (subst (CostFits c) (sym e) fits)
 
-pub option_one : {V : Type 0} (reads : Reads V) (same : V → V → Type 0) → ((xs : List ℕ) (v w : V)
-    (n m c d : ℕ) → reads xs v n c → reads xs w m d → (n ≡ m) × (c ≡ d) × same v w)
+pub option_one : {V : Type 0} (reads : Reads V) (same : V → V → Type 0) → IsOneReading reads same
     → (xs : List ℕ) (v w : Option V) (n m c d : ℕ) → ReadsOption reads xs v n c
     → ReadsOption reads xs w m d → (n ≡ m) × (c ≡ d) × SameOption same v w
 option_one reads same one xs None None n m c d p q = (p.1 ∙ sym q.1, p.2 ∙ sym q.2, tt)
@@ -45,16 +45,14 @@ null_long : (xs : List ℕ) → BeginsNull xs → 1 ≤ length xs
 null_long [] h = elim h [ inl e ↦ cc | inr e ↦ cc ]
 null_long (x ∷ xs) h = omega arith
 
-pub option_within : {V : Type 0} (reads : Reads V)
-    → ((xs : List ℕ) (v : V) (n c : ℕ) → reads xs v n c → n ≤ length xs)
+pub option_within : {V : Type 0} (reads : Reads V) → StaysWithin reads
     → (xs : List ℕ) (v : Option V) (n c : ℕ) → ReadsOption reads xs v n c → n ≤ length xs
 option_within reads within xs None n c p = omega (arith, p.1, null_long xs p.0)
 option_within reads within xs (Some v) n c p = within xs v n c p.2
 
 pub option_positive : {V : Type 0} (reads : Reads V) (never_empty : Bool)
-    → (IsTrue never_empty → (xs : List ℕ) (v : V) (n c : ℕ) → reads xs v n c → 1 ≤ n)
-    → IsTrue never_empty → (xs : List ℕ) (v : Option V) (n c : ℕ) → ReadsOption reads xs v n c
-    → 1 ≤ n
+    → (IsTrue never_empty → TakesSome reads) → IsTrue never_empty
+    → (xs : List ℕ) (v : Option V) (n c : ℕ) → ReadsOption reads xs v n c → 1 ≤ n
 option_positive reads never_empty positive e xs None n c p = omega (arith, p.1)
 option_positive reads never_empty positive e xs (Some v) n c p = positive e xs v n c p.2
 
@@ -79,8 +77,8 @@ some_byte (suc n) [] ys some within = absurd (omega arith)
 some_byte (suc n) (x ∷ xs) ys some within = omega arith
 
 pub option_alone : {V : Type 0} (reads : Reads V) (closed never_empty : Bool)
-    → ((xs : List ℕ) (v : V) (n c : ℕ) → reads xs v n c → n ≤ length xs)
-    → (IsTrue never_empty → (xs : List ℕ) (v : V) (n c : ℕ) → reads xs v n c → 1 ≤ n)
+    → StaysWithin reads
+    → (IsTrue never_empty → TakesSome reads)
     → (IsTrue closed → (xs ys : List ℕ) (v : V) (n c : ℕ) → reads xs v n c
     → reads (take n xs ++ ys) v n c)
     → IsTrue (closed && never_empty) → (xs ys : List ℕ) (v : Option V) (n c : ℕ)
@@ -103,8 +101,7 @@ option_alone reads closed never_empty within positive alone e xs ys (Some v) n c
 -- ---- a tagged item
 
 module _ {V : Type 0} (reads : Reads V) where
-  pub tag_one : (same : V → V → Type 0) → ((xs : List ℕ) (v w : V) (n m c d : ℕ) → reads xs v n c
-      → reads xs w m d → (n ≡ m) × (c ≡ d) × same v w)
+  pub tag_one : (same : V → V → Type 0) → IsOneReading reads same
       → (xs : List ℕ) (i : ℕ) (v : V) (j : ℕ) (w : V) (n m c d : ℕ) → ReadsTag reads xs i v n c
       → ReadsTag reads xs j w m d → (n ≡ m) × (c ≡ d) × ((i ≡ j) × same v w)
   tag_one same one xs i v j w n m c d p q =
@@ -113,8 +110,8 @@ module _ {V : Type 0} (reads : Reads V) where
       (subst (λ k. reads (drop k xs) w q.count d) (sym h.0) q.item) in
       (omega (arith, p.bytes, q.bytes, h.0, o.0), o.1, (h.1, o.2))
 
-  pub tag_within : ((xs : List ℕ) (v : V) (n c : ℕ) → reads xs v n c → n ≤ length xs)
-      → (xs : List ℕ) (i : ℕ) (v : V) (n c : ℕ) → ReadsTag reads xs i v n c → n ≤ length xs
+  pub tag_within : StaysWithin reads → (xs : List ℕ) (i : ℕ) (v : V) (n c : ℕ)
+      → ReadsTag reads xs i v n c → n ≤ length xs
   tag_within within xs i v n c p =
       omega (
         arith,

@@ -7,6 +7,7 @@ use Rattle.cbor4ii_items.specs.Heads.{ReadsHead}
 use Rattle.cbor4ii_items.specs.Laws.Heads.{head_one, head_read, head_alone}
 use Rattle.cbor4ii_items.specs.Laws.Prefixes.{two_prefixes, after_prefix}
 use Rattle.cbor4ii_items.specs.Maybe.{ReadsMaybe, RejectsMaybe}
+use Rattle.cbor4ii_items.specs.Laws.Lawful.{IsOneReading, StaysWithin}
 use Rattle.cbor4ii_items.specs.Decoding.{Reads, Format, IsLawful}
 use Rattle.cbor4ii_items.specs.declared.types.Maybe.{Maybe}
 
@@ -17,8 +18,7 @@ two_counts xs n m p q =
     let h = head_one 4 8 xs 0 1 n m (omega arith) p q in absurd (omega (arith, h.1))
 
 module _ {V : Type 0} (reads : Reads V) where
-  pub maybe_one : (same : V → V → Type 0) → ((xs : List ℕ) (v w : V) (n m c d : ℕ) → reads xs v n c
-      → reads xs w m d → (n ≡ m) × (c ≡ d) × same v w)
+  pub maybe_one : (same : V → V → Type 0) → IsOneReading reads same
       → (xs : List ℕ) (v w : Option V) (n m c d : ℕ) → ReadsMaybe reads xs v n c
       → ReadsMaybe reads xs w m d → (n ≡ m) × (c ≡ d) × SameOption same v w
   maybe_one same one xs None None n m c d p q =
@@ -31,8 +31,8 @@ module _ {V : Type 0} (reads : Reads V) where
       (subst (λ k. reads (drop k xs) w q.count d) (sym h.0) q.item) in
       (omega (arith, p.bytes, q.bytes, h.0, o.0), o.1, o.2)
 
-  pub maybe_within : ((xs : List ℕ) (v : V) (n c : ℕ) → reads xs v n c → n ≤ length xs)
-      → (xs : List ℕ) (v : Option V) (n c : ℕ) → ReadsMaybe reads xs v n c → n ≤ length xs
+  pub maybe_within : StaysWithin reads → (xs : List ℕ) (v : Option V) (n c : ℕ)
+      → ReadsMaybe reads xs v n c → n ≤ length xs
   maybe_within within xs None n c p = (head_read [] 4 8 xs 0 n (omega arith) p.0).1
   maybe_within within xs (Some v) n c p =
       omega (

@@ -1,6 +1,6 @@
 -- What an integer rejects is not read.
 use Rattle.std.proofs.Common.{◌≡◌, ℕ, ◌/◌, ◌^◌, ◌<◌, inl, inr, List, [], ◌∷◌, take, drop, sym, ap}
-use Rattle.std.proofs.Common.{ap₂, ◌∙◌, subst, arith}
+use Rattle.std.proofs.Common.{ap₂, ◌∙◌, subst, arith, refl, ◌⊎◌}
 use Rattle.std.specs.Prelude.{pos, negsuc}
 use Rattle.cbor4ii_items.specs.Heads.{ReadsHead}
 use Rattle.cbor4ii_items.specs.Magnitude.{number_of}
@@ -139,88 +139,56 @@ same_bignum tag other xs v w n k g h =
     p.value ∙ (ap₂ (λ i j. number_of (take i (drop j (drop h.before xs)))) length_is.1 length_is.0
     ∙ sym q.value)
 
-positive_head_apart : (xs : List ℕ) (err : InputError) (rest : List ℕ) (v n : ℕ)
-    → RejectsI128 xs err rest → ReadsHead 0 8 xs v n → ⊥
-positive_head_apart xs err rest v n (no_i128_byte e f g) h =
-    no_head 0 8 xs v n e h
-positive_head_apart xs err rest v n (i128_head_rejected b bs e type s) h =
-    head_apart _ 0 8 xs err rest v n s h
-positive_head_apart xs err rest v n (i128_negative_rejected b bs e type s) h =
-    absurd (omega (arith, type, major_of 0 8 xs v n b bs h e))
-positive_head_apart xs err rest v n (i128_tag_rejected b bs e type s) h =
-    absurd (omega (arith, type, major_of 0 8 xs v n b bs h e))
-positive_head_apart xs err rest v n (other_i128_tag tag before g p q e f) h =
-    absurd (omega (arith, two_majors 6 0 1 8 xs tag v before n g h))
-positive_head_apart xs err rest v n (i128_bytes_rejected before g s) h =
-    absurd (omega (arith, two_majors 6 0 1 8 xs 2 v before n g h))
-positive_head_apart xs err rest v n (i128_negative_bytes_rejected before g s) h =
-    absurd (omega (arith, two_majors 6 0 1 8 xs 3 v before n g h))
-positive_head_apart xs err rest v n (i128_too_great tag w k is g most e f) h =
-    absurd (omega (arith, two_majors 6 0 1 8 xs tag v g.before n g.tagged h))
+-- of major type 0 or 1, which is that of an argument
+one_head_apart : (major : ℕ) → major < 2 → (xs : List ℕ) (err : InputError) (rest : List ℕ)
+    (v n : ℕ) → RejectsI128 xs err rest → ReadsHead major 8 xs v n → ⊥
+one_head_apart major m xs err rest v n (no_i128_byte e f g) h = no_head major 8 xs v n e h
+one_head_apart major m xs err rest v n (i128_head_rejected b bs e type s) h =
+    head_apart _ 0 8 xs err rest v n s
+    (subst (λ j. ReadsHead j 8 xs v n) (sym (major_of major 8 xs v n b bs h e) ∙ type) h)
+one_head_apart major m xs err rest v n (i128_negative_rejected b bs e type s) h =
+    head_apart _ 1 8 xs err rest v n s
+    (subst (λ j. ReadsHead j 8 xs v n) (sym (major_of major 8 xs v n b bs h e) ∙ type) h)
+one_head_apart major m xs err rest v n (i128_tag_rejected b bs e type s) h =
+    absurd (omega (arith, m, type, major_of major 8 xs v n b bs h e))
+one_head_apart major m xs err rest v n (other_i128_tag tag before g p q e f) h =
+    absurd (omega (arith, m, two_majors 6 major 1 8 xs tag v before n g h))
+one_head_apart major m xs err rest v n (i128_bytes_rejected before g s) h =
+    absurd (omega (arith, m, two_majors 6 major 1 8 xs 2 v before n g h))
+one_head_apart major m xs err rest v n (i128_negative_bytes_rejected before g s) h =
+    absurd (omega (arith, m, two_majors 6 major 1 8 xs 3 v before n g h))
+one_head_apart major m xs err rest v n (i128_too_great tag w k is g most e f) h =
+    absurd (omega (arith, m, two_majors 6 major 1 8 xs tag v g.before n g.tagged h))
 
-negative_head_apart : (xs : List ℕ) (err : InputError) (rest : List ℕ) (v n : ℕ)
-    → RejectsI128 xs err rest → ReadsHead 1 8 xs v n → ⊥
-negative_head_apart xs err rest v n (no_i128_byte e f g) h =
-    no_head 1 8 xs v n e h
-negative_head_apart xs err rest v n (i128_head_rejected b bs e type s) h =
-    absurd (omega (arith, type, major_of 1 8 xs v n b bs h e))
-negative_head_apart xs err rest v n (i128_negative_rejected b bs e type s) h =
-    head_apart _ 1 8 xs err rest v n s h
-negative_head_apart xs err rest v n (i128_tag_rejected b bs e type s) h =
-    absurd (omega (arith, type, major_of 1 8 xs v n b bs h e))
-negative_head_apart xs err rest v n (other_i128_tag tag before g p q e f) h =
-    absurd (omega (arith, two_majors 6 1 1 8 xs tag v before n g h))
-negative_head_apart xs err rest v n (i128_bytes_rejected before g s) h =
-    absurd (omega (arith, two_majors 6 1 1 8 xs 2 v before n g h))
-negative_head_apart xs err rest v n (i128_negative_bytes_rejected before g s) h =
-    absurd (omega (arith, two_majors 6 1 1 8 xs 3 v before n g h))
-negative_head_apart xs err rest v n (i128_too_great tag w k is g most e f) h =
-    absurd (omega (arith, two_majors 6 1 1 8 xs tag v g.before n g.tagged h))
-
-positive_bignum_apart : (xs : List ℕ) (err : InputError) (rest : List ℕ) (v n : ℕ)
-    → RejectsI128 xs err rest → ReadsBignum 2 xs v n → v < 2 ^ 127 → ⊥
-positive_bignum_apart xs err rest v n (no_i128_byte e f g) h small =
-    no_head 6 1 xs 2 h.before e h.tagged
-positive_bignum_apart xs err rest v n (i128_head_rejected b bs e type s) h small =
-    absurd (omega (arith, type, major_of 6 1 xs 2 h.before b bs h.tagged e))
-positive_bignum_apart xs err rest v n (i128_negative_rejected b bs e type s) h small =
-    absurd (omega (arith, type, major_of 6 1 xs 2 h.before b bs h.tagged e))
-positive_bignum_apart xs err rest v n (i128_tag_rejected b bs e type s) h small =
-    head_apart _ 6 1 xs err rest 2 h.before s h.tagged
-positive_bignum_apart xs err rest v n (other_i128_tag tag before g p q e f) h small =
-    p (head_one 6 1 xs tag 2 before h.before (omega arith) g h.tagged).1
-positive_bignum_apart xs err rest v n (i128_bytes_rejected before g s) h small =
-    after_apart 2 _ xs err rest before v n g s h
-positive_bignum_apart xs err rest v n (i128_negative_bytes_rejected before g s) h small =
-    absurd (omega (arith, (head_one 6 1 xs 3 2 before h.before (omega arith) g h.tagged).1))
-positive_bignum_apart xs err rest v n (i128_too_great tag w k is g most e f) h small =
-    absurd (omega (arith, most, small, same_bignum tag 2 xs w v k n g h))
-
-negative_bignum_apart : (xs : List ℕ) (err : InputError) (rest : List ℕ) (v n : ℕ)
-    → RejectsI128 xs err rest → ReadsBignum 3 xs v n → v < 2 ^ 127 → ⊥
-negative_bignum_apart xs err rest v n (no_i128_byte e f g) h small =
-    no_head 6 1 xs 3 h.before e h.tagged
-negative_bignum_apart xs err rest v n (i128_head_rejected b bs e type s) h small =
-    absurd (omega (arith, type, major_of 6 1 xs 3 h.before b bs h.tagged e))
-negative_bignum_apart xs err rest v n (i128_negative_rejected b bs e type s) h small =
-    absurd (omega (arith, type, major_of 6 1 xs 3 h.before b bs h.tagged e))
-negative_bignum_apart xs err rest v n (i128_tag_rejected b bs e type s) h small =
-    head_apart _ 6 1 xs err rest 3 h.before s h.tagged
-negative_bignum_apart xs err rest v n (other_i128_tag tag before g p q e f) h small =
-    q (head_one 6 1 xs tag 3 before h.before (omega arith) g h.tagged).1
-negative_bignum_apart xs err rest v n (i128_bytes_rejected before g s) h small =
-    absurd (omega (arith, (head_one 6 1 xs 2 3 before h.before (omega arith) g h.tagged).1))
-negative_bignum_apart xs err rest v n (i128_negative_bytes_rejected before g s) h small =
-    after_apart 3 _ xs err rest before v n g s h
-negative_bignum_apart xs err rest v n (i128_too_great tag w k is g most e f) h small =
-    absurd (omega (arith, most, small, same_bignum tag 3 xs w v k n g h))
+-- with tag 2 or 3
+bignum_apart : (tag : ℕ) → (tag ≡ 2) ⊎ (tag ≡ 3) → (xs : List ℕ) (err : InputError)
+    (rest : List ℕ) (v n : ℕ) → RejectsI128 xs err rest → ReadsBignum tag xs v n → v < 2 ^ 127 → ⊥
+bignum_apart tag t xs err rest v n (no_i128_byte e f g) h small =
+    no_head 6 1 xs tag h.before e h.tagged
+bignum_apart tag t xs err rest v n (i128_head_rejected b bs e type s) h small =
+    absurd (omega (arith, type, major_of 6 1 xs tag h.before b bs h.tagged e))
+bignum_apart tag t xs err rest v n (i128_negative_rejected b bs e type s) h small =
+    absurd (omega (arith, type, major_of 6 1 xs tag h.before b bs h.tagged e))
+bignum_apart tag t xs err rest v n (i128_tag_rejected b bs e type s) h small =
+    head_apart _ 6 1 xs err rest tag h.before s h.tagged
+bignum_apart tag t xs err rest v n (other_i128_tag other before g p q e f) h small =
+    let same = (head_one 6 1 xs other tag before h.before (omega arith) g h.tagged).1 in
+    elim t [ inl two ↦ p (same ∙ two) | inr three ↦ q (same ∙ three) ]
+bignum_apart tag t xs err rest v n (i128_bytes_rejected before g s) h small =
+    let same = (head_one 6 1 xs 2 tag before h.before (omega arith) g h.tagged).1 in
+    after_apart 2 _ xs err rest before v n g s (subst (λ j. ReadsBignum j xs v n) (sym same) h)
+bignum_apart tag t xs err rest v n (i128_negative_bytes_rejected before g s) h small =
+    let same = (head_one 6 1 xs 3 tag before h.before (omega arith) g h.tagged).1 in
+    after_apart 3 _ xs err rest before v n g s (subst (λ j. ReadsBignum j xs v n) (sym same) h)
+bignum_apart tag t xs err rest v n (i128_too_great other w k is g most e f) h small =
+    absurd (omega (arith, most, small, same_bignum other tag xs w v k n g h))
 
 pub i128_apart : NeverBoth ReadsI128 (λ xs budget. RejectsI128 xs)
 i128_apart xs budget err rest s (pos k) n c (inl h, zero) fits =
-    positive_head_apart xs err rest k n s h
+    one_head_apart 0 (omega arith) xs err rest k n s h
 i128_apart xs budget err rest s (pos k) n c (inr h, zero) fits =
-    positive_bignum_apart xs err rest k n s h.0 h.1
+    bignum_apart 2 (inl refl) xs err rest k n s h.0 h.1
 i128_apart xs budget err rest s (negsuc k) n c (inl h, zero) fits =
-    negative_head_apart xs err rest k n s h
+    one_head_apart 1 (omega arith) xs err rest k n s h
 i128_apart xs budget err rest s (negsuc k) n c (inr h, zero) fits =
-    negative_bignum_apart xs err rest k n s h.0 h.1
+    bignum_apart 3 (inr refl) xs err rest k n s h.0 h.1

@@ -22,6 +22,7 @@ use Rattle.cbor4ii_items.specs.InputError.{InputError, input_error_of}
 use Rattle.cbor4ii_rw.specs.View.{View}
 use Rattle.cbor4ii_rw.specs.declared.error.DecodeError.{DecodeError}
 use Rattle.cbor4ii_items.specs.Laws.Bignums.{number_taken}
+use Rattle.cbor4ii_items.specs.Laws.Lawful.{IsOneReading}
 use Rattle.cbor4ii_items.specs.Decoding.{Reads, Sound, NoneRead, Complete}
 use Rattle.cbor4ii_items.specs.Budget.{CostFits}
 
@@ -245,8 +246,7 @@ nothing_more xs [] e = refl
 nothing_more xs (m ∷ more) e = absurd (omega (arith, e, length-append xs (m ∷ more)))
 
 pub none_begins : {V : Type 0} (reads : Reads V) (same : V → V → Type 0) (closed : Bool)
-    → ((xs : List ℕ) (v w : V) (n m c d : ℕ) → reads xs v n c → reads xs w m d
-    → (n ≡ m) × (c ≡ d) × same v w)
+    → IsOneReading reads same
     → (IsTrue closed → (xs ys : List ℕ) (v : V) (n c : ℕ) → reads xs v n c
     → reads (take n xs ++ ys) v n c) → IsTrue closed → NoneBeginsAnother reads
 none_begins reads same closed one alone e xs more v w c d p q =
@@ -258,11 +258,10 @@ none_begins reads same closed one alone e xs more v w c d p q =
 -- ---- what is written is decoded
 
 module _ {V : Type 0} (reads : Reads V) where
-  pub decoded : (same : V → V → Type 0) → ((xs : List ℕ) (v w : V) (n m c d : ℕ) → reads xs v n c
-      → reads xs w m d → (n ≡ m) × (c ≡ d) × same v w)
+  pub decoded : (same : V → V → Type 0) → IsOneReading reads same
       → (bytes rest : List ℕ) (v w : V) (cost : ℕ) (old new : View) → ReadsBack reads bytes v cost
-      → old.known ≡ Some (bytes ++ rest) → Sound reads old new w → same v w ×
-      (new.known ≡ Some rest)
+      → old.known ≡ Some (bytes ++ rest) → Sound reads old new w
+      → same v w × (new.known ≡ Some rest)
   decoded same one bytes rest v w cost old new back known sound =
       let t = sound.at (bytes ++ rest) known in
       let s = one (bytes ++ rest) v w (length bytes) t.count cost t.cost (back rest) t.read in (

@@ -16,6 +16,8 @@ use Rattle.cbor4ii_items.specs.Sequences.{ReadsIndefiniteElements, ReadsInside, 
 use Rattle.cbor4ii_items.specs.Sequences.{SameElements}
 use Rattle.cbor4ii_items.specs.Sequences.{ReadsPair, SamePair, sequence_format, array_format}
 use Rattle.cbor4ii_items.specs.Sequences.{pair_format, map_format}
+use Rattle.cbor4ii_items.specs.Laws.Lawful.{IsOneReading, IsOneSize, StaysWithin, StandsAlone}
+use Rattle.cbor4ii_items.specs.Laws.Lawful.{TakesSome}
 use Rattle.cbor4ii_items.specs.Decoding.{Reads, Format, IsLawful}
 use Rattle.cbor4ii_items.specs.Laws.Formats.{lawful_by}
 
@@ -32,8 +34,8 @@ one_byte (x ∷ xs) b e = omega arith
 -- ---- parts
 
 module _ {P : Type 0} (reads : Reads P) where
-  pub parts_within : ((xs : List ℕ) (p : P) (n c : ℕ) → reads xs p n c → n ≤ length xs)
-      → (xs : List ℕ) (ps : List P) (n c : ℕ) → ReadsElements reads xs ps n c → n ≤ length xs
+  pub parts_within : StaysWithin reads → (xs : List ℕ) (ps : List P) (n c : ℕ)
+      → ReadsElements reads xs ps n c → n ≤ length xs
   parts_within within xs [] n c h = omega (arith, h.0)
   parts_within within xs (p ∷ ps) n c h =
       omega (
@@ -45,9 +47,8 @@ module _ {P : Type 0} (reads : Reads P) where
       )
 
   -- where more parts are read, one is read after the first ones, at no more cost
-  pub next_part : ((xs : List ℕ) (p q : P) (n m c d : ℕ) → reads xs p n c → reads xs q m d → n ≡ m)
-      → (xs : List ℕ) (ps qs : List P) (n c m d : ℕ) → ReadsElements reads xs ps n c
-      → ReadsElements reads xs qs m d → length ps < length qs
+  pub next_part : IsOneSize reads → (xs : List ℕ) (ps qs : List P) (n c m d : ℕ)
+      → ReadsElements reads xs ps n c → ReadsElements reads xs qs m d → length ps < length qs
       → (q : P) × (k : ℕ) × (e : ℕ) × reads (drop n xs) q k e × (e ≤ d)
   next_part one xs [] [] n c m d g h less = absurd (omega arith)
   next_part one xs (p ∷ ps) [] n c m d g h less = absurd (omega arith)
@@ -62,9 +63,9 @@ module _ {P : Type 0} (reads : Reads P) where
       (r.0, r.1, r.2, subst (λ ys. reads ys r.0 r.1 r.2) e r.3, omega (arith, r.4, h.7))
 
   -- as many parts take as many bytes
-  pub parts_size : ((xs : List ℕ) (p q : P) (n m c d : ℕ) → reads xs p n c → reads xs q m d → n ≡ m)
-      → (xs : List ℕ) (ps qs : List P) (n m c d : ℕ) → ReadsElements reads xs ps n c
-      → ReadsElements reads xs qs m d → length ps ≡ length qs → n ≡ m
+  pub parts_size : IsOneSize reads → (xs : List ℕ) (ps qs : List P) (n m c d : ℕ)
+      → ReadsElements reads xs ps n c → ReadsElements reads xs qs m d → length ps ≡ length qs
+      → n ≡ m
   parts_size one xs [] [] n m c d g h e = g.0 ∙ sym h.0
   parts_size one xs [] (q ∷ qs) n m c d g h e = absurd (omega arith)
   parts_size one xs (p ∷ ps) [] n m c d g h e = absurd (omega arith)
@@ -74,8 +75,7 @@ module _ {P : Type 0} (reads : Reads P) where
       (subst (λ j. ReadsElements reads (drop j xs) qs h.2 h.3) (sym first) h.5) (omega arith) in
       omega (arith, g.6, h.6, first, rest)
 
-  parts_one : (same : P → P → Type 0) → ((xs : List ℕ) (p q : P) (n m c d : ℕ) → reads xs p n c
-      → reads xs q m d → (n ≡ m) × (c ≡ d) × same p q)
+  parts_one : (same : P → P → Type 0) → IsOneReading reads same
       → (xs : List ℕ) (ps qs : List P) (n m c d : ℕ) → ReadsElements reads xs ps n c
       → ReadsElements reads xs qs m d → length ps ≡ length qs
       → (n ≡ m) × (c ≡ d) × SameElements same ps qs
@@ -91,10 +91,8 @@ module _ {P : Type 0} (reads : Reads P) where
         (first.2, rest.2),
       )
 
-  parts_alone : ((xs : List ℕ) (p : P) (n c : ℕ) → reads xs p n c → n ≤ length xs)
-      → ((xs ys : List ℕ) (p : P) (n c : ℕ) → reads xs p n c → reads (take n xs ++ ys) p n c)
-      → (xs ys : List ℕ) (ps : List P) (n c : ℕ) → ReadsElements reads xs ps n c
-      → ReadsElements reads (take n xs ++ ys) ps n c
+  parts_alone : StaysWithin reads → StandsAlone reads → (xs ys : List ℕ) (ps : List P) (n c : ℕ)
+      → ReadsElements reads xs ps n c → ReadsElements reads (take n xs ++ ys) ps n c
   parts_alone within alone xs ys [] n c h = h
   parts_alone within alone xs ys (p ∷ ps) n c h =
       let trailing = drop h.0 xs in
@@ -122,14 +120,14 @@ module _ {P : Type 0} (reads : Reads P) where
 
 module _ {P : Type 0} (reads : Reads P) where
   pub unbroken_size :
-      ((xs : List ℕ) (p q : P) (n m c d : ℕ) → reads xs p n c → reads xs q m d → n ≡ m)
+      IsOneSize reads
       → (xs : List ℕ) (p q : P) (n m c d : ℕ) → Unbroken reads xs p n c → Unbroken reads xs q m d
       → n ≡ m
   unbroken_size one xs p q n m c d g h = one xs p q n m c d g.1 h.1
 
   -- at a break no more parts are read
   pub ends_at_break :
-      ((xs : List ℕ) (p q : P) (n m c d : ℕ) → reads xs p n c → reads xs q m d → n ≡ m)
+      IsOneSize reads
       → (xs : List ℕ) (ps qs : List P) (n c m d : ℕ) → ReadsElements (Unbroken reads) xs ps n c
       → BeginsWith (drop n xs) break → ReadsElements (Unbroken reads) xs qs m d → length qs ≤
       length ps
@@ -137,13 +135,11 @@ module _ {P : Type 0} (reads : Reads P) where
       let r = next_part (Unbroken reads) (unbroken_size one) xs ps qs n c m d g h less in
       r.3.0 ends)
 
-  whole_size : (same : P → P → Type 0) → ((xs : List ℕ) (p q : P) (n m c d : ℕ) → reads xs p n c
-      → reads xs q m d → (n ≡ m) × (c ≡ d) × same p q) → (xs : List ℕ) (p q : P) (n m c d : ℕ)
-      → reads xs p n c → reads xs q m d → n ≡ m
+  whole_size : (same : P → P → Type 0) → IsOneReading reads same
+      → (xs : List ℕ) (p q : P) (n m c d : ℕ) → reads xs p n c → reads xs q m d → n ≡ m
   whole_size same one xs p q n m c d g h = (one xs p q n m c d g h).0
 
-  until_one : (same : P → P → Type 0) → ((xs : List ℕ) (p q : P) (n m c d : ℕ) → reads xs p n c
-      → reads xs q m d → (n ≡ m) × (c ≡ d) × same p q)
+  until_one : (same : P → P → Type 0) → IsOneReading reads same
       → (never_empty : Bool) (xs : List ℕ) (ps qs : List P) (n m c d : ℕ)
       → ReadsUpToBreak reads never_empty xs ps n c → ReadsUpToBreak reads never_empty xs qs m d
       → (n ≡ m) × (c ≡ d) × SameElements same ps qs
@@ -155,12 +151,11 @@ module _ {P : Type 0} (reads : Reads P) where
       ps qs g.between h.between c d g.parts h.parts (omega (arith, more, less)) in
       (omega (arith, g.size, h.size, r.0), r.1, r.2)
 
-  unbroken_within : ((xs : List ℕ) (p : P) (n c : ℕ) → reads xs p n c → n ≤ length xs)
-      → (xs : List ℕ) (p : P) (n c : ℕ) → Unbroken reads xs p n c → n ≤ length xs
+  unbroken_within : StaysWithin reads → (xs : List ℕ) (p : P) (n c : ℕ) → Unbroken reads xs p n c
+      → n ≤ length xs
   unbroken_within within xs p n c h = within xs p n c h.1
 
-  until_within : ((xs : List ℕ) (p : P) (n c : ℕ) → reads xs p n c → n ≤ length xs)
-      → (never_empty : Bool) (xs : List ℕ) (ps : List P) (n c : ℕ)
+  until_within : StaysWithin reads → (never_empty : Bool) (xs : List ℕ) (ps : List P) (n c : ℕ)
       → ReadsUpToBreak reads never_empty xs ps n c → n ≤ length xs
   until_within within never_empty xs ps n c h =
       omega (
@@ -172,11 +167,10 @@ module _ {P : Type 0} (reads : Reads P) where
         length-drop h.between xs,
       )
 
-  module _ (within : (xs : List ℕ) (p : P) (n c : ℕ) → reads xs p n c → n ≤ length xs)
-      (alone : (xs ys : List ℕ) (p : P) (n c : ℕ) → reads xs p n c → reads (take n xs ++ ys) p n c)
+  module _ (within : StaysWithin reads)
+      (alone : StandsAlone reads)
       (never_empty : Bool)
-      (positive : IsTrue never_empty → (xs : List ℕ) (p : P) (n c : ℕ) → reads xs p n c
-      → 1 ≤ n) where
+      (positive : IsTrue never_empty → TakesSome reads) where
     unbroken_alone : IsTrue never_empty → (xs ys : List ℕ) (p : P) (n c : ℕ)
         → Unbroken reads xs p n c → Unbroken reads (take n xs ++ ys) p n c
     unbroken_alone some xs ys p n c h = (
@@ -218,8 +212,7 @@ module _ {P : Type 0} (reads : Reads P) where
 -- ---- sequences
 
 module _ {P : Type 0} (major : ℕ) (small : major < 8) (reads : Reads P) (never_empty : Bool) where
-  definite_one : (same : P → P → Type 0) → ((xs : List ℕ) (p q : P) (n m c d : ℕ) → reads xs p n c
-      → reads xs q m d → (n ≡ m) × (c ≡ d) × same p q)
+  definite_one : (same : P → P → Type 0) → IsOneReading reads same
       → (xs : List ℕ) (ps qs : List P) (n m c d : ℕ) → ReadsDefiniteElements major reads xs ps n c
       → ReadsDefiniteElements major reads xs qs m d → (n ≡ m) × (c ≡ d) × SameElements same ps qs
   definite_one same one xs ps qs n m c d g h =
@@ -228,8 +221,7 @@ module _ {P : Type 0} (major : ℕ) (small : major < 8) (reads : Reads P) (never
       (subst (λ j. ReadsElements reads (drop j xs) qs h.between d) (sym e.0) h.parts) e.1 in
       (omega (arith, g.size, h.size, e.0, r.0), r.1, r.2)
 
-  inside_one : (same : P → P → Type 0) → ((xs : List ℕ) (p q : P) (n m c d : ℕ) → reads xs p n c
-      → reads xs q m d → (n ≡ m) × (c ≡ d) × same p q)
+  inside_one : (same : P → P → Type 0) → IsOneReading reads same
       → (xs : List ℕ) (ps qs : List P) (n m c d : ℕ) → ReadsInside major reads never_empty xs ps n c
       → ReadsInside major reads never_empty xs qs m d → (n ≡ m) × (c ≡ d) × SameElements same ps qs
   inside_one same one xs ps qs n m c d (inl g) (inl h) = definite_one same one xs ps qs n m c d g h
@@ -242,18 +234,17 @@ module _ {P : Type 0} (major : ℕ) (small : major < 8) (reads : Reads P) (never
       h.parts in
       (omega (arith, g.size, h.size, r.0), r.1, r.2)
 
-  pub sequence_one : (same : P → P → Type 0) → ((xs : List ℕ) (p q : P) (n m c d : ℕ)
-      → reads xs p n c → reads xs q m d → (n ≡ m) × (c ≡ d) × same p q)
+  pub sequence_one : (same : P → P → Type 0) → IsOneReading reads same
       → (xs : List ℕ) (ps qs : List P) (n m c d : ℕ)
       → ReadsSequence major reads never_empty xs ps n c
-      → ReadsSequence major reads never_empty xs qs m d → (n ≡ m) × (c ≡ d) × SameElements
-      same ps qs
+      → ReadsSequence major reads never_empty xs qs m d
+      → (n ≡ m) × (c ≡ d) × SameElements same ps qs
   sequence_one same one xs ps qs n m c d g h =
       let r = inside_one same one xs ps qs n m g.0 h.0 g.1 h.1 in
       (r.0, omega (arith, g.2, h.2, r.1), r.2)
 
-  inside_within : ((xs : List ℕ) (p : P) (n c : ℕ) → reads xs p n c → n ≤ length xs) → (xs : List ℕ)
-      (ps : List P) (n c : ℕ) → ReadsInside major reads never_empty xs ps n c → n ≤ length xs
+  inside_within : StaysWithin reads → (xs : List ℕ) (ps : List P) (n c : ℕ)
+      → ReadsInside major reads never_empty xs ps n c → n ≤ length xs
   inside_within within xs ps n c (inl h) =
       omega (
         arith,
@@ -272,9 +263,8 @@ module _ {P : Type 0} (major : ℕ) (small : major < 8) (reads : Reads P) (never
         length-drop 1 xs,
       )
 
-  pub sequence_within : ((xs : List ℕ) (p : P) (n c : ℕ) → reads xs p n c → n ≤ length xs)
-      → (xs : List ℕ) (ps : List P) (n c : ℕ) → ReadsSequence major reads never_empty xs ps n c
-      → n ≤ length xs
+  pub sequence_within : StaysWithin reads → (xs : List ℕ) (ps : List P) (n c : ℕ)
+      → ReadsSequence major reads never_empty xs ps n c → n ≤ length xs
   sequence_within within xs ps n c h = inside_within within xs ps n h.0 h.1
 
   inside_positive : (xs : List ℕ) (ps : List P) (n c : ℕ)
@@ -287,10 +277,9 @@ module _ {P : Type 0} (major : ℕ) (small : major < 8) (reads : Reads P) (never
       → ReadsSequence major reads never_empty xs ps n c → 1 ≤ n
   sequence_positive xs ps n c h = inside_positive xs ps n h.0 h.1
 
-  module _ (within : (xs : List ℕ) (p : P) (n c : ℕ) → reads xs p n c → n ≤ length xs)
-      (alone : (xs ys : List ℕ) (p : P) (n c : ℕ) → reads xs p n c → reads (take n xs ++ ys) p n c)
-      (positive : IsTrue never_empty → (xs : List ℕ) (p : P) (n c : ℕ) → reads xs p n c
-      → 1 ≤ n) where
+  module _ (within : StaysWithin reads)
+      (alone : StandsAlone reads)
+      (positive : IsTrue never_empty → TakesSome reads) where
     definite_alone : (xs ys : List ℕ) (ps : List P) (n c : ℕ)
         → ReadsDefiniteElements major reads xs ps n c
         → ReadsDefiniteElements major reads (take n xs ++ ys) ps n c
@@ -369,10 +358,7 @@ either false b e = inr e
 
 module _ {K V : Type 0} (key_reads : Reads K) (value_reads : Reads V) where
   pair_one : (same_key : K → K → Type 0) (same_value : V → V → Type 0)
-      → ((xs : List ℕ) (v w : K) (n m c d : ℕ) → key_reads xs v n c → key_reads xs w m d
-      → (n ≡ m) × (c ≡ d) × same_key v w)
-      → ((xs : List ℕ) (v w : V) (n m c d : ℕ) → value_reads xs v n c → value_reads xs w m d
-      → (n ≡ m) × (c ≡ d) × same_value v w)
+      → IsOneReading key_reads same_key → IsOneReading value_reads same_value
       → (xs : List ℕ) (p q : K × V) (n m c d : ℕ) → ReadsPair key_reads value_reads xs p n c
       → ReadsPair key_reads value_reads xs q m d
       → (n ≡ m) × (c ≡ d) × SamePair same_key same_value p q
@@ -387,8 +373,7 @@ module _ {K V : Type 0} (key_reads : Reads K) (value_reads : Reads V) where
         (k.2, v.2),
       )
 
-  pub pair_within : ((xs : List ℕ) (v : K) (n c : ℕ) → key_reads xs v n c → n ≤ length xs)
-      → ((xs : List ℕ) (v : V) (n c : ℕ) → value_reads xs v n c → n ≤ length xs)
+  pub pair_within : StaysWithin key_reads → StaysWithin value_reads
       → (xs : List ℕ) (p : K × V) (n c : ℕ) → ReadsPair key_reads value_reads xs p n c
       → n ≤ length xs
   pair_within key_within value_within xs p n c h =
@@ -401,11 +386,9 @@ module _ {K V : Type 0} (key_reads : Reads K) (value_reads : Reads V) where
         length-drop h.key_size xs,
       )
 
-  pub pair_positive : (key_some value_some : Bool)
-      → (IsTrue key_some → (xs : List ℕ) (v : K) (n c : ℕ) → key_reads xs v n c → 1 ≤ n)
-      → (IsTrue value_some → (xs : List ℕ) (v : V) (n c : ℕ) → value_reads xs v n c → 1 ≤ n)
-      → IsTrue (key_some || value_some) → (xs : List ℕ) (p : K × V) (n c : ℕ)
-      → ReadsPair key_reads value_reads xs p n c → 1 ≤ n
+  pub pair_positive : (key_some value_some : Bool) → (IsTrue key_some → TakesSome key_reads)
+      → (IsTrue value_some → TakesSome value_reads) → IsTrue (key_some || value_some)
+      → (xs : List ℕ) (p : K × V) (n c : ℕ) → ReadsPair key_reads value_reads xs p n c → 1 ≤ n
   pair_positive key_some value_some key_positive value_positive e xs p n c h =
       elim (either key_some value_some e) [
         | inl t ↦ omega (arith, h.size, key_positive t xs p.0 h.key_size h.key_cost h.key)
@@ -416,11 +399,7 @@ module _ {K V : Type 0} (key_reads : Reads K) (value_reads : Reads V) where
         )
       ]
 
-  pair_alone : ((xs : List ℕ) (v : K) (n c : ℕ) → key_reads xs v n c → n ≤ length xs)
-      → ((xs ys : List ℕ) (v : K) (n c : ℕ) → key_reads xs v n c
-      → key_reads (take n xs ++ ys) v n c)
-      → ((xs ys : List ℕ) (v : V) (n c : ℕ) → value_reads xs v n c
-      → value_reads (take n xs ++ ys) v n c)
+  pair_alone : StaysWithin key_reads → StandsAlone key_reads → StandsAlone value_reads
       → (xs ys : List ℕ) (p : K × V) (n c : ℕ) → ReadsPair key_reads value_reads xs p n c
       → ReadsPair key_reads value_reads (take n xs ++ ys) p n c
   pair_alone key_within key_alone value_alone xs ys p n c h =
