@@ -24,3 +24,4 @@ pub mod CowRows
 pub mod SequenceAnswers
 pub mod NextByte
 pub mod Shortest
+pub mod Passed

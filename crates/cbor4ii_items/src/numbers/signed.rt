@@ -231,6 +231,7 @@ impl DecodeLeaf for i8 {
 /// - `CastOverflow` by "+i8" or "-i8": the argument is 2^7 or greater. What follows the head is
 ///   left
 impl<S: Source> Decode<S> for i8 {
+    #[tactic(auto, using(crate::proofs::Passed::decodes_passed))]
     #[inline(always)]
     fn decode(alloc: Global, reader: &mut S) -> Result<i8, DecodeError<S::Error>> {
         Ok(lone_signed(reader, "i8", "+i8", "-i8", 1, 0x80)? as i8)
@@ -278,6 +279,7 @@ impl DecodeLeaf for i16 {
 /// Those of an `i8`, by "i16", "+i16" and "-i16", and with these numbers in the place of one byte
 /// and 2^7.
 impl<S: Source> Decode<S> for i16 {
+    #[tactic(auto, using(crate::proofs::Passed::decodes_passed))]
     #[inline(always)]
     fn decode(alloc: Global, reader: &mut S) -> Result<i16, DecodeError<S::Error>> {
         Ok(lone_signed(reader, "i16", "+i16", "-i16", 2, 0x8000)? as i16)
@@ -324,6 +326,7 @@ impl DecodeLeaf for i32 {
 /// Those of an `i8`, by "i32", "+i32" and "-i32", and with these numbers in the place of one byte
 /// and 2^7.
 impl<S: Source> Decode<S> for i32 {
+    #[tactic(auto, using(crate::proofs::Passed::decodes_passed))]
     #[inline(always)]
     fn decode(alloc: Global, reader: &mut S) -> Result<i32, DecodeError<S::Error>> {
         Ok(lone_signed(reader, "i32", "+i32", "-i32", 4, 0x8000_0000)? as i32)

@@ -46,6 +46,7 @@ impl DecodeLeaf for u8 {
 /// - `Mismatch` with the first byte, which is taken: it begins no head of major type 0 with at most
 ///   one byte of argument
 impl<S: Source> Decode<S> for u8 {
+    #[tactic(auto, using(crate::proofs::Passed::decodes_passed))]
     #[inline(always)]
     fn decode(alloc: Global, reader: &mut S) -> Result<u8, DecodeError<S::Error>> {
         Ok(lone_head(reader, "u8", major::UNSIGNED, 1)? as u8)
@@ -90,6 +91,7 @@ impl DecodeLeaf for u16 {
 ///
 /// Those of a `u8`, by "u16", with two bytes of argument in the place of one.
 impl<S: Source> Decode<S> for u16 {
+    #[tactic(auto, using(crate::proofs::Passed::decodes_passed))]
     #[inline(always)]
     fn decode(alloc: Global, reader: &mut S) -> Result<u16, DecodeError<S::Error>> {
         Ok(lone_head(reader, "u16", major::UNSIGNED, 2)? as u16)
@@ -133,6 +135,7 @@ impl DecodeLeaf for u32 {
 ///
 /// Those of a `u8`, by "u32", with four bytes of argument in the place of one.
 impl<S: Source> Decode<S> for u32 {
+    #[tactic(auto, using(crate::proofs::Passed::decodes_passed))]
     #[inline(always)]
     fn decode(alloc: Global, reader: &mut S) -> Result<u32, DecodeError<S::Error>> {
         Ok(lone_head(reader, "u32", major::UNSIGNED, 4)? as u32)
