@@ -6,14 +6,14 @@ use Rattle.std.specs.Prelude.{ℤ, pos, negsuc, codes, fold}
 use Rattle.std.proofs.lemmas.List.{length-drop, length-append, length-take-le}
 use Rattle.cbor4ii_items.specs.Head.{IsBytes}
 use Rattle.cbor4ii_items.specs.Reading.{go_on, ◌>=>◌}
-use Rattle.cbor4ii_items.specs.Heads.{ReadsHead}
 use Rattle.cbor4ii_items.specs.ReadHead.{head_at, number_on}
 use Rattle.cbor4ii_items.specs.ReadNumber.{below, as_positive, as_negative, magnitude_by}
 use Rattle.cbor4ii_items.specs.ReadNumber.{magnitude_at, unsigned_bignum_at, u128_by, u128_at}
 use Rattle.cbor4ii_items.specs.ReadNumber.{small_magnitude_at, signed_bignum_at, i128_by, i128_at}
 use Rattle.cbor4ii_items.specs.Magnitude.{number_of}
 use Rattle.cbor4ii_items.specs.Numbers.{ReadsMagnitude, ReadsBignum, ReadsU128, ReadsI128}
-use Rattle.cbor4ii_items.specs.Laws.Prefixes.{drop_more, two_prefixes, after_prefix, the_prefix}
+use Rattle.cbor4ii_items.specs.Laws.Lawful.{head_kept}
+use Rattle.cbor4ii_items.specs.Laws.Prefixes.{drop_more, the_prefix}
 use Rattle.cbor4ii_items.specs.Laws.Heads.{head_read, head_alone}
 use Rattle.cbor4ii_items.specs.Laws.Arguments.{ReadBy, leaf_one, leaf_within, leaf_positive}
 use Rattle.cbor4ii_items.specs.Laws.Strings.{length_known}
@@ -52,21 +52,15 @@ magnitude_again name xs v n p =
 magnitude_alone : (xs ys : List ℕ) (v n : ℕ) → ReadsMagnitude xs v n
     → ReadsMagnitude (take n xs ++ ys) v n
 magnitude_alone xs ys v n p =
-    let h = (head_read [] 2 8 xs p.count p.before (omega arith) p.counted).1 in
+    let h = head_kept 2 8 xs ys p.count p.before p.count n (omega arith) p.counted p.size in
     let trailing = drop p.before xs in
     let long : p.count ≤ length trailing = omega (arith, length-drop p.before xs, p.within) in
-    let same : take n xs ++ ys ≡ take p.before xs ++ (take p.count trailing ++ ys) =
-    two_prefixes p.before p.count n xs ys p.size in
-    let left : drop p.before (take n xs ++ ys) ≡ take p.count trailing ++ ys =
-    ap (drop p.before) same ∙ after_prefix p.before xs (take p.count trailing ++ ys) h in
     let content : take p.count (drop p.before (take n xs ++ ys)) ≡ take p.count trailing =
-    ap (take p.count) left ∙ the_prefix p.count trailing ys long in
+    ap (take p.count) h.1 ∙ the_prefix p.count trailing ys long in
     record {
       count = p.count;
       before = p.before;
-      counted =
-          subst (λ zs. ReadsHead 2 8 zs p.count p.before) (sym same)
-          (head_alone 2 8 xs (take p.count trailing ++ ys) p.count p.before p.counted);
+      counted = h.0;
       short = p.short;
       within =
           omega (
@@ -107,21 +101,14 @@ bignum_read tag xs v n p =
 bignum_alone : (tag : ℕ) (xs ys : List ℕ) (v n : ℕ) → ReadsBignum tag xs v n
     → ReadsBignum tag (take n xs ++ ys) v n
 bignum_alone tag xs ys v n p =
-    let h = (head_read [] 6 1 xs tag p.before (omega arith) p.tagged).1 in
-    let trailing = drop p.before xs in
-    let same : take n xs ++ ys ≡ take p.before xs ++ (take p.size trailing ++ ys) =
-    two_prefixes p.before p.size n xs ys p.total in
-    let left : drop p.before (take n xs ++ ys) ≡ take p.size trailing ++ ys =
-    ap (drop p.before) same ∙ after_prefix p.before xs (take p.size trailing ++ ys) h in
+    let h = head_kept 6 1 xs ys tag p.before p.size n (omega arith) p.tagged p.total in
     record {
       before = p.before;
-      tagged =
-          subst (λ zs. ReadsHead 6 1 zs tag p.before) (sym same)
-          (head_alone 6 1 xs (take p.size trailing ++ ys) tag p.before p.tagged);
+      tagged = h.0;
       size = p.size;
       magnitude =
-          subst (λ zs. ReadsMagnitude zs v p.size) (sym left)
-          (magnitude_alone trailing ys v p.size p.magnitude);
+          subst (λ zs. ReadsMagnitude zs v p.size) (sym h.1)
+          (magnitude_alone (drop p.before xs) ys v p.size p.magnitude);
       total = p.total;
     }
 

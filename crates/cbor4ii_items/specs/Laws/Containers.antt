@@ -1,20 +1,18 @@
 -- An optional item and a tagged item are read as their item is.
 use Rattle.std.proofs.Common.{◌≡◌, ℕ, zero, suc, ◌≤◌, inl, inr, List, [], ◌∷◌, ◌++◌, length, drop}
-use Rattle.std.proofs.Common.{take, Option, Some, None, Bool, true, false, IsTrue, refl, sym, ap}
+use Rattle.std.proofs.Common.{take, Option, Some, None, Bool, true, false, IsTrue, refl, sym}
 use Rattle.std.proofs.Common.{◌∙◌, subst, arith, ◌≢◌}
 use Rattle.std.specs.Prelude.{◌&&◌}
 use Rattle.std.proofs.lemmas.List.{length-drop}
 use Rattle.cbor4ii_items.specs.Containers.{BeginsNull, ReadsOption, SameOption, RejectsOption}
 use Rattle.cbor4ii_items.specs.Containers.{ReadsTag, RejectsTag}
 use Rattle.cbor4ii_items.specs.declared.types.Tag.{Tag}
-use Rattle.cbor4ii_items.specs.Laws.Lawful.{IsOneReading, StaysWithin, TakesSome}
+use Rattle.cbor4ii_items.specs.Laws.Lawful.{IsOneReading, StaysWithin, TakesSome, head_kept}
 use Rattle.cbor4ii_items.specs.Decoding.{Format, IsLawful, format_by, taking_memory}
 use Rattle.cbor4ii_items.specs.Laws.Formats.{lawful_by, lawful_in_memory}
 use Rattle.std.specs.declared.alloc.Global.{Global}
 use Rattle.std.specs.Prelude.{Box}
-use Rattle.cbor4ii_items.specs.Heads.{ReadsHead}
-use Rattle.cbor4ii_items.specs.Laws.Heads.{head_one, head_read, head_alone}
-use Rattle.cbor4ii_items.specs.Laws.Prefixes.{two_prefixes, after_prefix}
+use Rattle.cbor4ii_items.specs.Laws.Heads.{head_one, head_read}
 use Rattle.cbor4ii_items.specs.Decoding.{Reads, NoneRead}
 use Rattle.cbor4ii_items.specs.Budget.{CostFits}
 
@@ -130,20 +128,13 @@ module _ {V : Type 0} (reads : Reads V) where
       → (xs ys : List ℕ) (i : ℕ) (v : V) (n c : ℕ) → ReadsTag reads xs i v n c
       → ReadsTag reads (take n xs ++ ys) i v n c
   tag_alone closed alone e xs ys i v n c p =
-      let h = (head_read [] 6 8 xs i p.before (omega arith) p.head).1 in
-      let trailing = drop p.before xs in
-      let same : take n xs ++ ys ≡ take p.before xs ++ (take p.count trailing ++ ys) =
-      two_prefixes p.before p.count n xs ys p.bytes in
-      let left : drop p.before (take n xs ++ ys) ≡ take p.count trailing ++ ys =
-      ap (drop p.before) same ∙ after_prefix p.before xs (take p.count trailing ++ ys) h in
+      let h = head_kept 6 8 xs ys i p.before p.count n (omega arith) p.head p.bytes in
       record {
         before = p.before;
-        head =
-            subst (λ zs. ReadsHead 6 8 zs i p.before) (sym same)
-            (head_alone 6 8 xs (take p.count trailing ++ ys) i p.before p.head);
+        head = h.0;
         count = p.count;
-        item = subst (λ zs. reads zs v p.count c) (sym left)
-            (alone e trailing ys v p.count c p.item);
+        item = subst (λ zs. reads zs v p.count c) (sym h.1)
+            (alone e (drop p.before xs) ys v p.count c p.item);
         bytes = p.bytes;
       }
 

@@ -249,10 +249,10 @@ pub allowed_parts : (width i : ℕ) → allowed_info width i ≡ true → (i < 2
 allowed_parts width i e = allowed_by (ltb i 28) i (argument_size i) width refl e
 
 long_number : (name : List ℕ) (major width b v n k : ℕ) (bs : List ℕ) → b / 32 ≡ major → 24 ≤ b % 32
-    → b % 32 < 28 → argument_size (b % 32) ≤ width → k ≡ argument_size (b % 32) → 1 ≤ n
+    → b % 32 < 28 → argument_size (b % 32) ≤ width → k ≡ argument_size (b % 32)
     → n ≤ length (b ∷ bs) → IsBytes (take n (b ∷ bs))
     → number_on name k k 0 bs ≡ Ok (v, drop n (b ∷ bs)) → ReadsHead major width (b ∷ bs) v n
-long_number name major width b v n k bs m lo hi le kk some room bytes e =
+long_number name major width b v n k bs m lo hi le kk room bytes e =
     let w = wide_of (b % 32) lo hi in
     let inv = number_inverse name k k 0 v bs (drop n (b ∷ bs)) e in
     let many : suc k ≡ n = omega (
@@ -298,18 +298,9 @@ argument_by true t name major width b v n bs es et m room bytes e =
     }
 argument_by false false name major width b v n bs es et m room bytes e = cc
 argument_by false true name major width b v n bs es et m room bytes e =
-    let k = argument_size (b % 32) in
-    let inv = number_inverse name k k 0 v bs (drop n (b ∷ bs)) e in
-    let some : 1 ≤ n = omega (
-      arith,
-      ap length inv.0,
-      length-append (take k bs) (drop n (b ∷ bs)),
-      inv.1,
-      length-drop n (b ∷ bs),
-    ) in
     let a = allowed_parts width (b % 32) et in
-    long_number name major width b v n k bs m (ltb-false (b % 32) 24 es) a.0 a.1 refl some room
-    bytes e
+    long_number name major width b v n (argument_size (b % 32)) bs m (ltb-false (b % 32) 24 es) a.0
+    a.1 refl room bytes e
 
 head_by_inverse : (t : Bool) (name : List ℕ) (major width b v n : ℕ) (bs : List ℕ)
     → eqb (b / 32) major ≡ t → n ≤ length (b ∷ bs) → IsBytes (take n (b ∷ bs))

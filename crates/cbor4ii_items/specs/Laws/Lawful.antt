@@ -1,6 +1,12 @@
--- What the laws of a type say of its reading alone, each by a name of its own.
-use Rattle.std.proofs.Common.{◌≡◌, ℕ, ◌≤◌, List, ◌++◌, length, take}
+-- What the laws of a type say of its reading alone, each by a name of its own; and a head before
+-- what it counts, with other bytes after both.
+use Rattle.std.proofs.Common.{◌≡◌, ℕ, ◌+◌, ◌<◌, ◌≤◌, List, [], ◌++◌, length, drop, take, sym, ap}
+use Rattle.std.proofs.Common.{◌∙◌}
+use Rattle.std.proofs.Common.{subst}
 use Rattle.cbor4ii_items.specs.Decoding.{Reads}
+use Rattle.cbor4ii_items.specs.Heads.{ReadsHead}
+use Rattle.cbor4ii_items.specs.Laws.Heads.{head_alone, head_read}
+use Rattle.cbor4ii_items.specs.Laws.Prefixes.{two_prefixes, after_prefix}
 
 module _ {V : Type 0} (reads : Reads V) where
   -- one value, one size and one cost
@@ -21,3 +27,16 @@ module _ {V : Type 0} (reads : Reads V) where
   abbrev pub StandsAlone : Type 0
   StandsAlone = (xs ys : List ℕ) (v : V) (n c : ℕ) → reads xs v n c
       → reads (take n xs ++ ys) v n c
+
+pub head_kept : (major width : ℕ) (xs ys : List ℕ) (v before count n : ℕ) → major < 8
+    → ReadsHead major width xs v before → n ≡ before + count
+    → ReadsHead major width (take n xs ++ ys) v before
+    × (drop before (take n xs ++ ys) ≡ take count (drop before xs) ++ ys)
+head_kept major width xs ys v before count n small h size =
+    let tail = take count (drop before xs) ++ ys in
+    let same = two_prefixes before count n xs ys size in (
+      subst (λ zs. ReadsHead major width zs v before) (sym same)
+          (head_alone major width xs tail v before h),
+      ap (drop before) same
+          ∙ after_prefix before xs tail (head_read [] major width xs v before small h).1,
+    )

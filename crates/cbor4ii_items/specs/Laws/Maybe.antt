@@ -1,13 +1,12 @@
 -- An array of no item or one is read as its item is.
 use Rattle.std.proofs.Common.{◌≡◌, ℕ, ◌≤◌, List, [], ◌++◌, length, drop, take, Option, Some, None}
-use Rattle.std.proofs.Common.{Bool, true, IsTrue, sym, ap, ◌∙◌, subst, arith}
+use Rattle.std.proofs.Common.{Bool, true, IsTrue, sym, ◌∙◌, subst, arith}
 use Rattle.std.proofs.lemmas.List.{length-drop}
 use Rattle.cbor4ii_items.specs.Containers.{SameOption}
 use Rattle.cbor4ii_items.specs.Heads.{ReadsHead}
 use Rattle.cbor4ii_items.specs.Laws.Heads.{head_one, head_read, head_alone}
-use Rattle.cbor4ii_items.specs.Laws.Prefixes.{two_prefixes, after_prefix}
 use Rattle.cbor4ii_items.specs.Maybe.{ReadsMaybe, RejectsMaybe}
-use Rattle.cbor4ii_items.specs.Laws.Lawful.{IsOneReading, StaysWithin}
+use Rattle.cbor4ii_items.specs.Laws.Lawful.{IsOneReading, StaysWithin, head_kept}
 use Rattle.cbor4ii_items.specs.Decoding.{Reads, Format, IsLawful}
 use Rattle.cbor4ii_items.specs.declared.types.Maybe.{Maybe}
 
@@ -54,20 +53,13 @@ module _ {V : Type 0} (reads : Reads V) where
       → ReadsMaybe reads (take n xs ++ ys) v n c
   maybe_alone closed alone e xs ys None n c p = (head_alone 4 8 xs ys 0 n p.0, p.1)
   maybe_alone closed alone e xs ys (Some v) n c p =
-      let h = (head_read [] 4 8 xs 1 p.before (omega arith) p.head).1 in
-      let trailing = drop p.before xs in
-      let same : take n xs ++ ys ≡ take p.before xs ++ (take p.count trailing ++ ys) =
-      two_prefixes p.before p.count n xs ys p.bytes in
-      let left : drop p.before (take n xs ++ ys) ≡ take p.count trailing ++ ys =
-      ap (drop p.before) same ∙ after_prefix p.before xs (take p.count trailing ++ ys) h in
+      let h = head_kept 4 8 xs ys 1 p.before p.count n (omega arith) p.head p.bytes in
       record {
         before = p.before;
-        head =
-            subst (λ zs. ReadsHead 4 8 zs 1 p.before) (sym same)
-            (head_alone 4 8 xs (take p.count trailing ++ ys) 1 p.before p.head);
+        head = h.0;
         count = p.count;
-        item = subst (λ zs. reads zs v p.count c) (sym left)
-            (alone e trailing ys v p.count c p.item);
+        item = subst (λ zs. reads zs v p.count c) (sym h.1)
+            (alone e (drop p.before xs) ys v p.count c p.item);
         bytes = p.bytes;
       }
 

@@ -1,5 +1,5 @@
 -- A number that is rejected has one error: that of the program.
-use Rattle.std.proofs.Common.{◌≡◌, ◌≢◌, ℕ, ◌+◌, ◌/◌, ◌^◌, ◌<◌, ◌≤◌, ◌⊎◌, inl, inr, List, []}
+use Rattle.std.proofs.Common.{◌≡◌, ◌≢◌, ℕ, ◌/◌, ◌^◌, ◌<◌, ◌≤◌, ◌⊎◌, inl, inr, List, []}
 use Rattle.std.proofs.Common.{length, take, drop, Some, Ok, Err, true, false, refl, sym, ap, ◌∙◌}
 use Rattle.std.proofs.Common.{arith, ltb, lt-ltb, le-ltb, eqb, ne_eqb}
 use Rattle.std.specs.Prelude.{codes}

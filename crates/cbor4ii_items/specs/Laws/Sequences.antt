@@ -5,8 +5,7 @@ use Rattle.std.proofs.Common.{max}
 use Rattle.std.specs.Prelude.{◌||◌, codes}
 use Rattle.std.proofs.lemmas.List.{length-drop}
 use Rattle.cbor4ii_items.specs.Head.{break}
-use Rattle.cbor4ii_items.specs.Heads.{ReadsHead}
-use Rattle.cbor4ii_items.specs.Laws.Heads.{head_one, head_read, head_alone}
+use Rattle.cbor4ii_items.specs.Laws.Heads.{head_one, head_read}
 use Rattle.cbor4ii_items.specs.Laws.Strings.{BeginsWith, head_not_indefinite}
 use Rattle.cbor4ii_items.specs.Laws.Containers.{both, first_kept}
 use Rattle.cbor4ii_items.specs.Laws.Prefixes.{drop_more, two_prefixes, after_prefix}
@@ -17,6 +16,7 @@ use Rattle.cbor4ii_items.specs.Sequences.{SameElements}
 use Rattle.cbor4ii_items.specs.Sequences.{ReadsPair, SamePair, sequence_format, array_format}
 use Rattle.cbor4ii_items.specs.Sequences.{pair_format, map_format}
 use Rattle.cbor4ii_items.specs.Laws.Lawful.{IsOneReading, IsOneSize, StaysWithin, StandsAlone}
+use Rattle.cbor4ii_items.specs.Laws.Lawful.{head_kept}
 use Rattle.cbor4ii_items.specs.Laws.Lawful.{TakesSome}
 use Rattle.cbor4ii_items.specs.Decoding.{Reads, Format, IsLawful}
 use Rattle.cbor4ii_items.specs.Laws.Formats.{lawful_by}
@@ -284,22 +284,14 @@ module _ {P : Type 0} (major : ℕ) (small : major < 8) (reads : Reads P) (never
         → ReadsDefiniteElements major reads xs ps n c
         → ReadsDefiniteElements major reads (take n xs ++ ys) ps n c
     definite_alone xs ys ps n c h =
-        let room = (head_read [] major 8 xs (length ps) h.before small h.head).1 in
-        let trailing = drop h.before xs in
-        let tail = take h.between trailing ++ ys in
-        let whole : take n xs ++ ys ≡ take h.before xs ++ tail =
-        two_prefixes h.before h.between n xs ys h.size in
-        let left : drop h.before (take n xs ++ ys) ≡ tail =
-        ap (drop h.before) whole ∙ after_prefix h.before xs tail room in
+        let k = head_kept major 8 xs ys (length ps) h.before h.between n small h.head h.size in
         record {
           before = h.before;
-          head =
-              subst (λ zs. ReadsHead major 8 zs (length ps) h.before) (sym whole)
-              (head_alone major 8 xs tail (length ps) h.before h.head);
+          head = k.0;
           between = h.between;
           parts =
-              subst (λ zs. ReadsElements reads zs ps h.between c) (sym left)
-              (parts_alone reads within alone trailing ys ps h.between c h.parts);
+              subst (λ zs. ReadsElements reads zs ps h.between c) (sym k.1)
+              (parts_alone reads within alone (drop h.before xs) ys ps h.between c h.parts);
           size = h.size;
         }
 

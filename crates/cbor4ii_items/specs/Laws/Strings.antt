@@ -10,12 +10,13 @@ use Rattle.cbor4ii_items.specs.Decoding.{IsLawful}
 use Rattle.cbor4ii_items.specs.Budget.{CostFits}
 use Rattle.cbor4ii_items.specs.Laws.Outcome.{same_value}
 use Rattle.cbor4ii_items.specs.Heads.{ReadsHead}
-use Rattle.cbor4ii_items.specs.Laws.Heads.{head_read, head_alone, additional-lt}
+use Rattle.cbor4ii_items.specs.Laws.Heads.{head_read, additional-lt}
 use Rattle.cbor4ii_items.specs.ReadHead.{head_at, length_at}
 use Rattle.cbor4ii_items.specs.ReadStrings.{content_on, break_at, chunk_by, chunk_inside_at}
 use Rattle.cbor4ii_items.specs.ReadStrings.{chunk_at, chunks_at, string_by, string_at}
 use Rattle.cbor4ii_items.specs.Laws.Chunks.{chunks_by, chunks_more}
 use Rattle.cbor4ii_items.specs.Laws.DefiniteContent.{content_whole}
+use Rattle.cbor4ii_items.specs.Laws.Lawful.{head_kept}
 use Rattle.cbor4ii_items.specs.Laws.Prefixes.{drop_more, two_prefixes, after_prefix, the_prefix}
 use Rattle.cbor4ii_items.specs.Strings.{ReadsDefiniteString, ReadsChunks, joined_content}
 use Rattle.cbor4ii_items.specs.Strings.{chunk_cost}
@@ -145,18 +146,12 @@ pub definite_alone : (major : ℕ) (xs ys v : List ℕ) (n : ℕ) → major < 8
 definite_alone major xs ys v n m h =
     let i = h.before in
     let k = length v in
-    let r = head_read [] major 8 xs k i m h.head in
-    let e : take n xs ++ ys ≡ take i xs ++ (take k (drop i xs) ++ ys) =
-    two_prefixes i k n xs ys h.size in
-    let trailing : drop i (take n xs ++ ys) ≡ take k (drop i xs) ++ ys =
-    ap (drop i) e ∙ after_prefix i xs (take k (drop i xs) ++ ys) r.1 in
+    let p = head_kept major 8 xs ys k i k n m h.head h.size in
     record {
       before = i;
-      head =
-          subst (λ zs. ReadsHead major 8 zs k i) (sym e)
-          (head_alone major 8 xs (take k (drop i xs) ++ ys) k i h.head);
+      head = p.0;
       stands =
-          ap (take k) trailing
+          ap (take k) p.1
           ∙ (the_prefix k (drop i xs) ys (fits_content v (drop i xs) h.stands) ∙ h.stands);
       size = h.size;
     }

@@ -1,4 +1,4 @@
-use Rattle.std.proofs.Common.{true, false, refl, rules}
+use Rattle.std.proofs.Common.{true, false, rules}
 use Rattle.std.proofs.lemmas.Result.{err_from_is_err_and}
 use Rattle.cbor4ii_items.proofs.NextByte.{definite_follows, indefinite_follows}
 use Rattle.cbor4ii_items.proofs.NextByte.{indefinite_follows_not}

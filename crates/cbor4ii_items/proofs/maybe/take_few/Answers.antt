@@ -1,6 +1,5 @@
 use Rattle.std.proofs.lemmas.Result.{err_from_is_err_and}
 use Rattle.cbor4ii_items.specs.Laws.Running.{runs_err}
-use Rattle.std.proofs.Common.{rules}
 use Rattle.cbor4ii_items.proofs.maybe.take_few.Goals as goal
 
 pub returns-in_err-length-clause-runs : goal.returns-in_err-length-clause-runs

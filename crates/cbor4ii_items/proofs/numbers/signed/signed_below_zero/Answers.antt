@@ -1,4 +1,4 @@
-use Rattle.std.proofs.Common.{[], arith, refl}
+use Rattle.std.proofs.Common.{[], arith}
 use Rattle.cbor4ii_items.proofs.WholeHeads.{found_some, found_none, runs_stayed, progress_stayed}
 use Rattle.cbor4ii_items.proofs.WholeHeads.{runs_broke}
 use Rattle.cbor4ii_items.proofs.SignedRuns.{minus_read, minus_rejected, negative_is}

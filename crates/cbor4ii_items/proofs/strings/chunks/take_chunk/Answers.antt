@@ -1,4 +1,3 @@
-use Rattle.std.proofs.Common.{rules}
 use Rattle.cbor4ii_items.proofs.IndefiniteStrings.{chunk_runs}
 use Rattle.cbor4ii_items.proofs.strings.chunks.take_chunk.Goals as goal
 

@@ -1,4 +1,4 @@
-use Rattle.std.proofs.Common.{rules, arith}
+use Rattle.std.proofs.Common.{arith}
 use Rattle.cbor4ii_items.specs.Laws.Running.{look_shows}
 use Rattle.cbor4ii_items.specs.Laws.Contents.{IsBytes-from, takes_prefix}
 use Rattle.cbor4ii_items.proofs.strings.definite.take_shown.Goals as goal
