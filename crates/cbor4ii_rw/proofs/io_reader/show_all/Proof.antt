@@ -191,7 +191,8 @@ module _ (R : RattleType) (gB : BufRead.Ghosts R.Denot) (dB : Dict) (gR : Read.G
       abbrev at : Bound → Bound
       at y = ((y.0.0, y.0.1, y.0.2, y.0.3, (mut_vals y.0.3.0, tt)), y.1)
 
-      walk : (y : Bound) → ent 𝓤 ((walk_of 𝓛 ended stayed held).pre (at y)) (WpFn 𝓤 H 𝓣.C 𝓣.Λ fn' (mut_vals y.0.3.0)
+      walk : (y : Bound) → ent 𝓤 ((walk_of 𝓛 ended stayed held).pre (at y))
+          (WpFn 𝓤 H 𝓣.C 𝓣.Λ fn' (mut_vals y.0.3.0)
           ((walk_of 𝓛 ended stayed held).post (at y)))
       unfolding such_by follows_by
       walk y =
