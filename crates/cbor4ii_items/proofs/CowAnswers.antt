@@ -55,8 +55,7 @@ few_borrows name count is_text content IsBorrowed (Ok (Some v)) s few t = λ who
     let h = t.by.1.answers xs (s.known xs known) in
     let long = (content_inverse name count [] xs t.by.0 h.0 h.2).0 in
     absurd (omega (arith, few whole xs known, long))
-few_borrows name count is_text content IsBorrowed (Ok None) s few t = tt
-few_borrows name count is_text content IsBorrowed (Err e) s few t = tt
+few_borrows name count is_text content IsBorrowed _ s few t = tt
 
 -- ---- a string
 
@@ -122,8 +121,7 @@ module _ {V E : Type 0} (name : List ℕ) (major : ℕ) (IsBorrowed IsOwned : V 
       → IfOk r (λ value. IfSome value (IsBorrowedWhereWhole IsBorrowed m))
       → IfOk r (λ value. IfSome value (BorrowsWhereDefinite major IsBorrowed IsOwned a))
   known_borrows (Ok (Some v)) is h = definite_borrows v is h
-  known_borrows (Ok None) is h = tt
-  known_borrows (Err e) is h = tt
+  known_borrows _ is h = tt
 
   pub joined_owns : (value : Option V) → l ≡ None → IfSome value IsOwned
       → IfSome value (BorrowsWhereDefinite major IsBorrowed IsOwned a)

@@ -136,8 +136,7 @@ module _ (V E : Type 0) (name : List ℕ) (count : ℕ) (is_text : Bool) (conten
       → Named name o r → Kept a m → Sound (ReadsArgument major 8) a m count → IsExact false a
       → IfErr o (LacksContent count is_text m b)
       → IfErr r (Complete (ReadsBorrowed major is_text content) a)
-  lent_complete major o (Ok w) small n kept s (inl f) lacks = tt
-  lent_complete major o (Ok w) small n kept s (inr whole) lacks = tt
+  lent_complete major o (Ok w) small n kept s _ lacks = tt
   lent_complete major (Ok v) (Err e) small n kept s exact lacks = absurd n
   lent_complete major (Err lack) (Err e) small n kept s (inl f) lacks = cc
   lent_complete major (Err lack) (Err e) small n kept s (inr whole) lacks = record {
@@ -174,8 +173,7 @@ module _ (V E : Type 0) (name : List ℕ) (count : ℕ) (is_text : Bool) (conten
       → Named name o r → Kept a m → Sound (ReadsArgument major 8) a m count → IsExact false a
       → IfErr o (LacksContent count is_text m b)
       → IfErr r (Rejects (RejectsBorrowed name major is_text) a b)
-  lent_rejects major o (Ok w) small n kept s (inl f) lacks = tt
-  lent_rejects major o (Ok w) small n kept s (inr whole) lacks = tt
+  lent_rejects major o (Ok w) small n kept s _ lacks = tt
   lent_rejects major (Ok v) (Err e) small n kept s exact lacks = absurd n
   lent_rejects major (Err lack) (Err e) small n kept s (inl f) lacks = cc
   lent_rejects major (Err lack) (Err e) small n kept s (inr whole) lacks = record {

@@ -38,8 +38,7 @@ runs_marked name least greatest {b = b} p q r = record {
 
 and_parts : (s t : Bool) → (s && t) ≡ true → (s ≡ true) × (t ≡ true)
 and_parts true true e = (refl, refl)
-and_parts true false e = cc
-and_parts false t e = cc
+and_parts _ _ e = cc
 
 marked_by : (t : Bool) (name : List ℕ) (least greatest x b : ℕ) (xs ys : List ℕ)
     → (nat_le least x && nat_le x greatest) ≡ t

@@ -77,8 +77,7 @@ indefinite_by : (s t : Bool) (major b : ℕ) → leb 2 major ≡ s → leb major
     → cond s (cond t (eqb b (indefinite_head major)) false) false ≡ true → LacksLength major b
 indefinite_by true true major b p q e =
     (leb-true 2 major p, leb-true major 5 q, eqb-true b (indefinite_head major) e)
-indefinite_by true false major b p q e = cc
-indefinite_by false t major b p q e = cc
+indefinite_by _ _ major b p q e = cc
 
 indefinite : (major b : ℕ) → is_indefinite_head major b ≡ true → LacksLength major b
 indefinite major b e = indefinite_by (leb 2 major) (leb major 5) major b refl refl e

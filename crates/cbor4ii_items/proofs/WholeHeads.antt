@@ -157,8 +157,7 @@ pub then_progress : {V E : Type 0} {a m : View} (bound : ℕ) (r : Result (Optio
     → IfOk r (λ found. OnSome found (bound + 1 ≤ m.bound))
     → IfOk r (λ found. OnSome found (bound + 1 ≤ a.bound))
 then_progress bound (Ok (Some v)) s h = omega (arith, h, s.kept.bound)
-then_progress bound (Ok None) s h = tt
-then_progress bound (Err e) s h = tt
+then_progress bound _ s h = tt
 
 pub runs_broke : {V E : Type 0} {f : Reading V} {a b : View} {e : E} → ReaderFailed a b
     → Runs f a b (Err (Read e))

@@ -109,9 +109,7 @@ lack_error name NotUtf8 = Some (require_utf8 name)
 
 abbrev pub lack_is_read : {E : Type 0} → Lacks E → Bool
 lack_is_read (Read e) = true
-lack_is_read Short = false
-lack_is_read (Few n) = false
-lack_is_read NotUtf8 = false
+lack_is_read _ = false
 
 -- the error says what is lacking
 pub record SaysLack {E : Type 0} (name : List ℕ) (lack : Lacks E)

@@ -56,8 +56,7 @@ option_positive reads never_empty positive e xs (Some v) n c p = positive e xs v
 
 pub both : (a b : Bool) → IsTrue (a && b) → IsTrue a × IsTrue b
 both true true e = (refl, refl)
-both true false e = cc
-both false b e = cc
+both _ _ e = cc
 
 -- a prefix with at least one byte has the first byte
 pub first_kept : (n : ℕ) (xs ys : List ℕ) → 1 ≤ n → n ≤ length xs

@@ -75,10 +75,7 @@ additional-lt n eight h = omega arith
 -- the additional information of a head says its width
 pub info-additional : (n : ℕ) (w : Width) → HeadFits w n → info_of (additional w n) ≡ in_width w
 info-additional n in_first h = let t : ltb n 24 ≡ true = lt-ltb n 24 (omega arith) in rw t refl
-info-additional n w_one h = refl
-info-additional n two h = refl
-info-additional n four h = refl
-info-additional n eight h = refl
+info-additional n _ h = refl
 
 pub if_cases : {A : Type 0} (P : A → Type 0) (b : Bool) (x y : A) → (b ≡ true → P x)
     → (b ≡ false → P y)
@@ -368,17 +365,12 @@ fits_below : (wide : Width) (n : ℕ) → 0 < byte_count wide → n < 256 ^ byte
     → HeadFits wide n
 fits_below in_first n some h = absurd (omega arith)
 fits_below w_one n some h = omega arith
-fits_below two n some h = h
-fits_below four n some h = h
-fits_below eight n some h = h
+fits_below _ n some h = h
 
 same_additional : (wide : Width) (n m : ℕ) → 0 < byte_count wide
     → additional wide n ≡ additional wide m
 same_additional in_first n m some = absurd (omega arith)
-same_additional w_one n m some = refl
-same_additional two n m some = refl
-same_additional four n m some = refl
-same_additional eight n m some = refl
+same_additional _ n m some = refl
 
 -- some head of this width begins with these bytes, and has more
 pub record Completes (major : ℕ) (wide : Width) (xs : List ℕ) : Type 0 where

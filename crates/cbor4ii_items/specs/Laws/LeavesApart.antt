@@ -72,8 +72,7 @@ length_apart name major xs budget err rest s None n c p fits = s.0 p.0
 -- ---- one byte or none
 
 no_break : (xs : List ℕ) (b : ℕ) → xs ≡ [] → take 1 xs ≡ b ∷ [] → ⊥
-no_break [] b e f = cc
-no_break (x ∷ xs) b e f = cc
+no_break _ b e f = cc
 
 pub break_apart : NeverBoth ReadsBreak RejectsBreak
 break_apart xs budget err rest s true n c p fits = no_break xs _ s.0 p.0

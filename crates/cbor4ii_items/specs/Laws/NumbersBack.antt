@@ -30,10 +30,7 @@ use Rattle.cbor4ii_items.specs.Budget.{CostFits}
 
 least_one : (v : ℕ) (wide : Width) → 24 ≤ v → v < 256 ^ byte_count wide → 1 ≤ byte_count wide
 least_one v in_first low h = absurd (omega arith)
-least_one v w_one low h = omega arith
-least_one v two low h = omega arith
-least_one v four low h = omega arith
-least_one v eight low h = omega arith
+least_one v _ low h = omega arith
 
 least_two : (v : ℕ) (wide : Width) → 256 ≤ v → v < 256 ^ byte_count wide → 2 ≤ byte_count wide
 least_two v in_first low h = absurd (omega arith)

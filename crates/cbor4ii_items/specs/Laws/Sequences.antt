@@ -50,8 +50,7 @@ module _ {P : Type 0} (reads : Reads P) where
   pub next_part : IsOneSize reads → (xs : List ℕ) (ps qs : List P) (n c m d : ℕ)
       → ReadsElements reads xs ps n c → ReadsElements reads xs qs m d → length ps < length qs
       → (q : P) × (k : ℕ) × (e : ℕ) × reads (drop n xs) q k e × (e ≤ d)
-  next_part one xs [] [] n c m d g h less = absurd (omega arith)
-  next_part one xs (p ∷ ps) [] n c m d g h less = absurd (omega arith)
+  next_part one xs _ [] n c m d g h less = absurd (omega arith)
   next_part one xs [] (q ∷ qs) n c m d g h less =
       (q, h.0, h.1, subst (λ j. reads (drop j xs) q h.0 h.1) (sym g.0) h.4, omega (arith, h.7))
   next_part one xs (p ∷ ps) (q ∷ qs) n c m d g h less =

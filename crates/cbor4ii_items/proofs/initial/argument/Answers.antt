@@ -41,10 +41,7 @@ found info trailing from to (Some f) a size = rw size (in_following info f.0 tra
 follows : (info n : ℕ) (w : Width) → 24 ≤ info → HeadFits w n → additional w n ≡ info
     → byte_count w ≡ argument_size info
 follows info n in_first from fits says = absurd (omega (arith, from, fits, says))
-follows info n one from fits says = ap argument_size says
-follows info n two from fits says = ap argument_size says
-follows info n four from fits says = ap argument_size says
-follows info n eight from fits says = ap argument_size says
+follows info n _ from fits says = ap argument_size says
 
 too_few : (info : ℕ) (trailing : List ℕ) → 24 ≤ info → length trailing < argument_size info
     → LacksArgument info trailing
