@@ -1,33 +1,27 @@
 -- What is answered of a slice that is read as one item.
 use Rattle.std.proofs.Common.{◌≡◌, ◌≤◌, ◌+◌, ℕ, List, [], length, drop, Some, Result, Ok, Err, inl}
 use Rattle.std.proofs.Common.{refl, sym, ap, ◌∙◌, subst, arith, take, take-append-drop, IsTrue}
-use Rattle.std.proofs.Common.{append-nil, Bool}
-use Rattle.std.specs.Prelude.{IfOk, IfErr}
-use Rattle.std.proofs.Math.Seq.{drop-length}
-use Rattle.std.proofs.lemmas.List.{length-drop}
-use Rattle.std.specs.Result.{IsErrAnd}
-use Rattle.std.specs.declared.string.ParseError.{Infallible}
+use Rattle.std.proofs.{Common.{append-nil, Bool}, Math.Seq.drop-length, lemmas.List.length-drop}
+use Rattle.std.specs.{Prelude.{IfOk, IfErr}, Result.IsErrAnd, declared.string.ParseError.Infallible}
 use Rattle.cbor4ii_rw.specs.{Input.limit, View.View, declared.error.DecodeError.DecodeError}
-use Rattle.cbor4ii_rw.specs.declared.error.DecodeError.TheVariants as error
 use Rattle.cbor4ii_rw.specs.declared.error.WholeError.{WholeError}
 use Rattle.cbor4ii_rw.specs.declared.error.WholeError.TheVariants.{Decode, Trailing}
 use Rattle.cbor4ii_items.specs.{Decoding.Format, Moves.{Kept, Moves}, Whole.DecodesWhole}
 use Rattle.cbor4ii_items.specs.InputError.{InputError, is_out_of_memory}
 use Rattle.cbor4ii_tree.specs.Calls.Asking.{Asks, InValue, WantsOnly, WantsOnlyWhole}
-use Rattle.cbor4ii_tree.specs.{Basis.Canonical.canonical_encoding}
-use Rattle.cbor4ii_tree.specs.{Calls.Canonically.canonical_format}
-use Rattle.cbor4ii_tree.specs.{Calls.CanonicalRejects.CanonicalRejects}
+use Rattle.cbor4ii_tree.specs.Basis.Canonical.{canonical_encoding}
+use Rattle.cbor4ii_tree.specs.Calls.Canonically.{canonical_format}
+use Rattle.cbor4ii_tree.specs.Calls.CanonicalRejects.{CanonicalRejects}
 use Rattle.cbor4ii_tree.specs.{Calls.CanonicalShape.DecodesCanonically, Basis.Encodings.DecodesTo}
-use Rattle.cbor4ii_tree.specs.{Basis.Item.Item}
-use Rattle.cbor4ii_tree.specs.{Basis.Headline.AnswersWhole, Calls.Promises.value_format}
-use Rattle.cbor4ii_tree.specs.{Basis.View.view}
-use Rattle.cbor4ii_tree.specs.{Calls.ReadingRejects.ReadingRejects}
+use Rattle.cbor4ii_tree.specs.{Basis.Item.Item, Basis.Headline.AnswersWhole}
+use Rattle.cbor4ii_tree.specs.{Calls.Promises.value_format, Basis.View.view}
+use Rattle.cbor4ii_tree.specs.Calls.ReadingRejects.{ReadingRejects}
 use Rattle.cbor4ii_tree.specs.declared.decode_canonical.Canonical.{Canonical}
 use Rattle.cbor4ii_tree.specs.declared.value.Value.{Value}
 use Rattle.cbor4ii_tree.proofs.canonical.Decoding.{as_read, canonical_or}
 use Rattle.cbor4ii_tree.proofs.encodings.CanonicalShape.{reads_canonically_iff}
-use Rattle.cbor4ii_tree.proofs.reading.Answer.{not_both, one_reading}
-use Rattle.cbor4ii_tree.proofs.values.Asking.{not_wanted}
+use Rattle.cbor4ii_tree.proofs.{reading.Answer.{not_both, one_reading}, values.Asking.not_wanted}
+use Rattle.cbor4ii_rw.specs.declared.error.DecodeError.TheVariants as error
 
 module _ {V : Type 0} (format : Format V) (bytes : List ℕ) (Accepts : V → List ℕ → Type 0)
     (accepts : (v : V) (n c : ℕ) → format.reads bytes v n c → c ≤ limit
@@ -61,18 +55,7 @@ module _ {V : Type 0} (Accepts : V → List ℕ → Type 0) (Rejects : InputErro
       absurd (omega (arith))
   memory_alone (Decode error.OutOfMemory) a = refl
   memory_alone (Decode (error.Read e)) a = elim e [ ]
-  memory_alone (Decode (error.Mismatch name found)) a = absurd (none _ a.0 a.1)
-  memory_alone (Decode (error.Unsupported name found)) a = absurd (none _ a.0 a.1)
-  memory_alone (Decode (error.Eof name expect)) a = absurd (none _ a.0 a.1)
-  memory_alone (Decode (error.RequireLength name found)) a = absurd (none _ a.0 a.1)
-  memory_alone (Decode (error.RequireBorrowed name)) a = absurd (none _ a.0 a.1)
-  memory_alone (Decode (error.RequireUtf8 name)) a = absurd (none _ a.0 a.1)
-  memory_alone (Decode (error.LengthOverflow name found)) a = absurd (none _ a.0 a.1)
-  memory_alone (Decode (error.CastOverflow name)) a = absurd (none _ a.0 a.1)
-  memory_alone (Decode (error.ArithmeticOverflow name ty)) a = absurd (none _ a.0 a.1)
-  memory_alone (Decode (error.DepthOverflow name)) a = absurd (none _ a.0 a.1)
-  memory_alone (Decode (error.Custom name num)) a = absurd (none _ a.0 a.1)
-  memory_alone (Decode (error.NotCanonical name)) a = absurd (none _ a.0 a.1)
+  memory_alone _ a = absurd (none _ a.0 a.1)
 
 -- ---- where memory is asked for
 

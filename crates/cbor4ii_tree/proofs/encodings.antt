@@ -1,7 +1,5 @@
 -- What is said of encodings alone: the canonical one, costs, sizes, worked rows.
-pub mod Canonical
 pub mod CanonicalShape
-pub mod Costs
 pub mod Sizes
 pub mod Rows
 pub mod Order

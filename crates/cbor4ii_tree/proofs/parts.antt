@@ -1,9 +1,6 @@
 pub mod Meets
-pub mod Sound
 pub mod Stop
 pub mod Widen
 pub mod Prefixes
 pub mod Pushed
-pub mod Joined
 pub mod Rejecting
-pub mod Cut

@@ -5,8 +5,5 @@ pub mod Finding
 pub mod IfKnown
 pub mod Keys
 pub mod Meanings
-pub mod Placed
 pub mod SplitItems
-pub mod Splits
-pub mod Unlent
 pub mod Walks

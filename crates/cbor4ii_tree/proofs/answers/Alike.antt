@@ -2,17 +2,13 @@
 use Rattle.std.proofs.Common.{◌≡◌, ℕ, List, Some, None, Option, Result, Ok, Err, inl, inr, ◌⊎◌}
 use Rattle.std.proofs.Common.{refl, sym, subst, ap, ◌∙◌}
 use Rattle.std.specs.Prelude.{IfSome}
-use Rattle.cbor4ii_rw.specs.View.{View}
-use Rattle.cbor4ii_rw.specs.declared.error.DecodeError.{DecodeError}
-use Rattle.cbor4ii_items.specs.Decoding.{Decodes}
-use Rattle.cbor4ii_items.specs.InputError.{InputError, input_error_of}
-use Rattle.cbor4ii_tree.specs.Basis.Headline.{Answered}
-use Rattle.cbor4ii_tree.specs.Basis.View.{view}
+use Rattle.cbor4ii_rw.specs.{View.View, declared.error.DecodeError.DecodeError}
+use Rattle.cbor4ii_items.specs.{Decoding.Decodes, InputError.{InputError, input_error_of}}
+use Rattle.cbor4ii_tree.specs.{Basis.Headline.Answered, Basis.View.view}
 use Rattle.cbor4ii_tree.specs.Calls.Canonically.{canonical_format, AllCanonical, ExactCanonical}
 use Rattle.cbor4ii_tree.specs.Calls.Canonically.{OnlyCanonical}
 use Rattle.cbor4ii_tree.specs.Calls.CanonicalRejects.{CanonicalRejects}
-use Rattle.cbor4ii_tree.specs.Calls.CanonicalShape.{DecodesCanonically}
-use Rattle.cbor4ii_tree.specs.Calls.SameAnswer.{SameAnswer}
+use Rattle.cbor4ii_tree.specs.{Calls.CanonicalShape.DecodesCanonically, Calls.SameAnswer.SameAnswer}
 use Rattle.cbor4ii_tree.specs.declared.decode_canonical.Canonical.{Canonical}
 
 none_of : {A : Type 0} (o : Option A) → IfSome o (λ _. ⊥) → o ≡ None

@@ -3,23 +3,18 @@
 use Rattle.std.proofs.Common.{◌≡◌, ℕ, zero, suc, ◌*◌, inl, inr, List, [], ◌∷◌, length, Option, Some}
 use Rattle.std.proofs.Common.{None, Bool, true, false, sym, subst}
 use Rattle.cbor4ii_items.specs.{Head.Width, Initial.{Kind, byte_string, text_string, kind_major}}
-use Rattle.cbor4ii_items.specs.Initial.{Initial, starts_int, bad_int, starts_string, starts_chunks}
-use Rattle.cbor4ii_items.specs.Initial.{bad_string, starts_array, starts_indefinite_array}
-use Rattle.cbor4ii_items.specs.Initial.{bad_array, starts_map, starts_indefinite_map, bad_map}
-use Rattle.cbor4ii_items.specs.Initial.{starts_tag, bad_tag, starts_simple, starts_bits}
-use Rattle.cbor4ii_items.specs.Initial.{other_simple, initial}
-use Rattle.cbor4ii_tree.specs.{Basis.Cost.{Budget, step_in}}
-use Rattle.cbor4ii_tree.specs.{Basis.InputError.{InputError, Len, eof, MayReject}}
-use Rattle.cbor4ii_tree.specs.Basis.InputError.{IsEof, IsFinal, IsDepthOverflow, depth_overflow}
-use Rattle.cbor4ii_tree.specs.Basis.InputError.{tag_name}
+use Rattle.cbor4ii_items.specs.Initial.{Initial, starts_int, starts_string, starts_chunks}
+use Rattle.cbor4ii_items.specs.Initial.{starts_array, starts_indefinite_array, bad_array}
+use Rattle.cbor4ii_items.specs.Initial.{starts_map, starts_indefinite_map, bad_map, starts_tag}
+use Rattle.cbor4ii_items.specs.Initial.{starts_simple, starts_bits, initial}
+use Rattle.cbor4ii_tree.specs.Basis.{Cost.{Budget, step_in}, InputError.{InputError, Len, eof}}
+use Rattle.cbor4ii_tree.specs.Basis.InputError.{MayReject, IsEof, IsFinal, IsDepthOverflow}
+use Rattle.cbor4ii_tree.specs.Basis.{InputError.{depth_overflow, tag_name}, Tree.Tree}
 use Rattle.cbor4ii_tree.specs.Calls.ItemRejects.{Profile, NoUtf8Joined, ChunkRejectsBy, ChunkOf}
 use Rattle.cbor4ii_tree.specs.Calls.ItemRejects.{RejectsChunkBy, RejectsBy, RejectsFrom}
-use Rattle.cbor4ii_tree.specs.Calls.ItemRejects.{RejectsWithin}
-use Rattle.cbor4ii_tree.specs.{Calls.ItemRejects.ItemRejects}
-use Rattle.cbor4ii_tree.specs.{Calls.Rejections.{Rejection, Missing, AtHead}}
-use Rattle.cbor4ii_tree.specs.Calls.Rejections.{RejectsInCount, RejectsAtStep, NoBreak}
-use Rattle.cbor4ii_tree.specs.Calls.Rejections.{IndefiniteItems}
-use Rattle.cbor4ii_tree.specs.{Calls.Rejections.IndefinitePairs, Basis.Tree.Tree}
+use Rattle.cbor4ii_tree.specs.Calls.{ItemRejects.{RejectsWithin, ItemRejects}, Rejections.Rejection}
+use Rattle.cbor4ii_tree.specs.Calls.Rejections.{Missing, AtHead, RejectsInCount, RejectsAtStep}
+use Rattle.cbor4ii_tree.specs.Calls.Rejections.{NoBreak, IndefiniteItems, IndefinitePairs}
 use Rattle.cbor4ii_tree.proofs.parts.Rejecting.{either}
 
 -- the error is one of these, and an end of the input leaves nothing
@@ -100,14 +95,12 @@ module _ (p : Profile) where
   module _ (b : Budget) (s : Budget → Rejection) (k : (c : Budget) → Known (s c)) where
     by_known : (i : Initial) (a : ℕ) → Known (RejectsBy p s b i a)
     by_known (starts_int sg v) a bs e rest x = ended _ _ e rest x.1.0 x.1.1
-    by_known (bad_int sg) a bs e rest x = final _ e rest x.0 tt
     by_known (starts_string kd v) a bs e rest x =
         either p.tests (cut_known _ kd v a bs e rest) (λ t y. final _ e rest y.rejected.err tt) x
     by_known (starts_chunks kd) a bs e rest x =
         either {B = NoUtf8Joined kd (ChunkOf p.tests kd b (p.Whole b)) bs e rest} p.tests
         (items_known _ _ (chunk_known p.tests kd b (s b) (k b)) bs e rest)
         (λ t y. final _ e rest y.err tt) x
-    by_known (bad_string kd) a bs e rest x = final _ e rest x.0 tt
     by_known (starts_array v) a bs e rest x =
         stepped_known _ (p.inside b) (a ∷ bs) _ e rest (λ c z. at_head_known p.of_array 4 v a
         (RejectsInCount (p.Whole c) (s c)) (λ n bs' e' rest' y. k c y.after e' rest' y.rejected) bs
@@ -128,10 +121,9 @@ module _ (p : Profile) where
         stepped_known _ (p.inside b) (a ∷ bs) _ e rest (λ c z. final _ e rest z.0 tt) x
     by_known (starts_tag v) a bs e rest x =
         at_head_known tag_name 6 v a (λ n. s b) (λ n. k b) bs e rest x
-    by_known bad_tag a bs e rest x = final _ e rest x.0 tt
     by_known (starts_simple v) a bs e rest x = absurd x
     by_known (starts_bits q) a bs e rest x = ended _ _ e rest x.1.0 x.1.1
-    by_known other_simple a bs e rest x = final _ e rest x.0 tt
+    by_known _ a bs e rest x = final _ e rest x.0 tt
 
     from_known : Known (RejectsFrom p s b)
     from_known [] e rest x = ended _ _ e rest x.0 x.1

@@ -4,19 +4,16 @@ use Rattle.std.proofs.Common.{ℕ, zero, suc, ◌*◌, ◌<◌, ◌≤◌, inl, 
 use Rattle.std.proofs.Common.{length, ap, arith, length-append}
 use Rattle.cbor4ii_items.specs.{Head.{head, shortest_width}, Initial.{Initial, starts_tag, initial}}
 use Rattle.cbor4ii_tree.specs.Calls.CanonicalRejects.{FitsCanonically, AtShortest}
-use Rattle.cbor4ii_tree.specs.Calls.CanonicalRejects.{CanonicalRejectsBy}
-use Rattle.cbor4ii_tree.specs.Calls.CanonicalRejects.{CanonicalRejectsFrom, CanonicalRejectsWithin}
-use Rattle.cbor4ii_tree.specs.Calls.CanonicalRejects.{CanonicalRejects, CanonicalRejectsByParts}
-use Rattle.cbor4ii_tree.specs.{Basis.Cost.{Budget, step_in}}
-use Rattle.cbor4ii_tree.specs.{Basis.InputError.{InputError, tag_name}}
-use Rattle.cbor4ii_tree.specs.{Basis.InputError.{array_name, map_name, value_name}}
-use Rattle.cbor4ii_tree.specs.{Calls.ItemRejects.RejectsBy}
-use Rattle.cbor4ii_tree.specs.Calls.ReadingRejects.{ReadingRejects, ReadingRejectsByParts}
-use Rattle.cbor4ii_tree.specs.Calls.ReadingRejects.{reading_profile}
+use Rattle.cbor4ii_tree.specs.Calls.CanonicalRejects.{CanonicalRejectsBy, CanonicalRejectsFrom}
+use Rattle.cbor4ii_tree.specs.Calls.CanonicalRejects.{CanonicalRejectsWithin, CanonicalRejects}
+use Rattle.cbor4ii_tree.specs.{Calls.CanonicalRejects.CanonicalRejectsByParts, Basis.Cost.Budget}
+use Rattle.cbor4ii_tree.specs.{Basis.Cost.step_in, Basis.InputError.{InputError, tag_name}}
+use Rattle.cbor4ii_tree.specs.Basis.InputError.{array_name, map_name, value_name}
+use Rattle.cbor4ii_tree.specs.{Calls.ItemRejects.RejectsBy, Calls.ReadingRejects.ReadingRejects}
+use Rattle.cbor4ii_tree.specs.Calls.ReadingRejects.{ReadingRejectsByParts, reading_profile}
 use Rattle.cbor4ii_tree.specs.Calls.Rejections.{Rejection, RejectsInCount}
 use Rattle.cbor4ii_tree.specs.Calls.SkippingRejects.{SkippingRejects, SkippingRejectsByParts}
-use Rattle.cbor4ii_tree.specs.Calls.SkippingRejects.{skipping_profile}
-use Rattle.cbor4ii_tree.specs.Basis.Tree.{Tree, bytes_all}
+use Rattle.cbor4ii_tree.specs.{Calls.SkippingRejects.skipping_profile, Basis.Tree.{Tree, bytes_all}}
 use Rattle.cbor4ii_tree.proofs.{parts.Rejecting.in_count, parts.Widen.trailing}
 use Rattle.cbor4ii_tree.proofs.profile.Widen.{by_parts, step_same, reading_widens, skipping_widens}
 
@@ -102,13 +99,12 @@ canonical_from_below k b s t f (a ∷ bs) e rest lt x =
 
 within : (k n m : ℕ) (b : Budget) → k ≤ n → k ≤ m
     → Below k (CanonicalRejectsWithin n b) (CanonicalRejectsWithin m b)
-within zero n m b p q bs e rest lt x = absurd (omega arith)
 within (suc k) zero m b p q bs e rest lt x = absurd x
-within (suc k) (suc n) zero b p q bs e rest lt x = absurd (omega arith)
 within (suc k) (suc n) (suc m) b p q bs e rest lt x =
     step_same value_name (step_in b) bs _ _ e rest (λ c. canonical_from_below k c
     (CanonicalRejectsWithin n) (CanonicalRejectsWithin m)
     (λ d. within k n m d (omega arith) (omega arith)) bs e rest lt) x
+within _ _ _ b p q bs e rest lt x = absurd (omega arith)
 
 whole : Budget → Rejection
 whole b part = CanonicalRejects part b

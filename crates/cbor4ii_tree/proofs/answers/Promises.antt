@@ -6,28 +6,27 @@ use Rattle.std.proofs.lemmas.List.{take-append-drop}
 use Rattle.cbor4ii_rw.specs.{declared.error.DecodeError.DecodeError, View.View}
 use Rattle.cbor4ii_items.specs.{Head.IsBytes, InputError.{InputError, input_error_of}}
 use Rattle.cbor4ii_items.specs.{Laws.Answering.not_read, Moves.{Moves, Kept, ReaderFailed}}
-use Rattle.cbor4ii_tree.specs.{Basis.Canonical.{canonical_encoding, canonical_cost}}
-use Rattle.cbor4ii_tree.specs.{Basis.Cost.Budget}
-use Rattle.cbor4ii_tree.specs.{declared.value.Value.Value, Inner.Does.{Accepting, Does}}
-use Rattle.cbor4ii_tree.specs.{Basis.Encodings.{Encodes, DecodesTo, IsProperPrefix}}
-use Rattle.cbor4ii_tree.specs.{Basis.Headline.Answered}
-use Rattle.cbor4ii_tree.specs.Basis.Headline.{AllSkips, OnlyReads, AllReads, PrefixReads, EofReads}
+use Rattle.cbor4ii_tree.specs.Basis.Canonical.{canonical_encoding, canonical_cost}
+use Rattle.cbor4ii_tree.specs.{Basis.Cost.Budget, declared.value.Value.Value, Inner.Does.Accepting}
+use Rattle.cbor4ii_tree.specs.{Inner.Does.Does, Basis.Encodings.{Encodes, DecodesTo}}
+use Rattle.cbor4ii_tree.specs.{Basis.Encodings.IsProperPrefix, Basis.Headline.{Answered, AllSkips}}
+use Rattle.cbor4ii_tree.specs.Basis.Headline.{OnlyReads, AllReads, PrefixReads, EofReads}
 use Rattle.cbor4ii_tree.specs.{Basis.Headline.{SkipsReads, CanonicalReads}, Basis.InputError.IsEof}
-use Rattle.cbor4ii_tree.specs.{Basis.Item.IsItem}
-use Rattle.cbor4ii_tree.specs.Calls.Promises.{Others, PrefixSkips, EofSkips, DepthSkips, FinalSkips}
-use Rattle.cbor4ii_tree.specs.Calls.Promises.{ExactSkips, DepthReads, FinalReads, ExactReads}
-use Rattle.cbor4ii_tree.specs.Calls.Promises.{SizeReads}
+use Rattle.cbor4ii_tree.specs.{Basis.Item.IsItem, Calls.Promises.{Others, PrefixSkips, EofSkips}}
+use Rattle.cbor4ii_tree.specs.Calls.Promises.{DepthSkips, FinalSkips, ExactSkips, DepthReads}
+use Rattle.cbor4ii_tree.specs.Calls.Promises.{FinalReads, ExactReads, SizeReads}
 use Rattle.cbor4ii_tree.specs.Calls.ReadingRejects.{ReadingRejects, Readable, reading_profile}
-use Rattle.cbor4ii_tree.specs.{Calls.Rejections.Rejection}
-use Rattle.cbor4ii_tree.specs.{Inner.Skipping.{SkipsOne, RejectsSkippingOne}}
-use Rattle.cbor4ii_tree.specs.{Calls.SkippingRejects.skipping_profile}
-use Rattle.cbor4ii_tree.specs.{Basis.Tree.{Tree, bytes, Loose, Joins}}
-use Rattle.cbor4ii_tree.specs.{Inner.Valuing.ReadsOneValue, Basis.View.view}
+use Rattle.cbor4ii_tree.specs.{Calls.Rejections.Rejection, Inner.Skipping.SkipsOne}
+use Rattle.cbor4ii_tree.specs.Inner.Skipping.{RejectsSkippingOne}
+use Rattle.cbor4ii_tree.specs.{Calls.SkippingRejects.skipping_profile, Basis.Tree.{Tree, bytes}}
+use Rattle.cbor4ii_tree.specs.{Basis.Tree.{Loose, Joins}, Inner.Valuing.ReadsOneValue}
+use Rattle.cbor4ii_tree.specs.Basis.View.{view}
 use Rattle.cbor4ii_tree.proofs.answers.MayReject.{may_reject, leaves_nothing}
-use Rattle.cbor4ii_tree.proofs.{encodings.Canonical.canonical_encodes, encodings.Sizes.size-of_tree}
-use Rattle.cbor4ii_tree.proofs.profile.Answer.{skipping_laws, reading_laws, no_eof, stays}
-use Rattle.cbor4ii_tree.proofs.profile.Answer.{final_stays, no_prefix, eof_alone, eof_on_prefix}
-use Rattle.cbor4ii_tree.proofs.reading.Answer.{tree_of, decodes_tree, one_reading}
+use Rattle.cbor4ii_tree.proofs.encodings.CanonicalShape.{canonical_encodes}
+use Rattle.cbor4ii_tree.proofs.{encodings.Sizes.size-of_tree, profile.Answer.skipping_laws}
+use Rattle.cbor4ii_tree.proofs.profile.Answer.{reading_laws, no_eof, stays, final_stays, no_prefix}
+use Rattle.cbor4ii_tree.proofs.{profile.Answer.{eof_alone, eof_on_prefix}, reading.Answer.tree_of}
+use Rattle.cbor4ii_tree.proofs.reading.Answer.{decodes_tree, one_reading}
 use Rattle.cbor4ii_tree.proofs.skipping.Answer.{one_skipping}
 use Rattle.cbor4ii_tree.proofs.reading.Laws as readings
 

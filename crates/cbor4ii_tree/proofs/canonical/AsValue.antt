@@ -12,18 +12,15 @@ use Rattle.cbor4ii_items.specs.Shortest.{RejectsShortest, shortest_rejected, sho
 use Rattle.cbor4ii_items.specs.Shortest.{too_long, RejectsShortestString, length_rejected}
 use Rattle.cbor4ii_items.specs.{Shortest.content_cut, Strings.{string_head_rejected, string_cut}}
 use Rattle.cbor4ii_tree.specs.Calls.CanonicalRejects.{FitsCanonically, AtShortest}
-use Rattle.cbor4ii_tree.specs.Calls.CanonicalRejects.{CanonicalOtherRejects}
-use Rattle.cbor4ii_tree.specs.Calls.CanonicalRejects.{CanonicalRejectsBy, CanonicalRejectsFrom}
-use Rattle.cbor4ii_tree.specs.Calls.CanonicalRejects.{CanonicalRejectsWithin, CanonicalRejects}
-use Rattle.cbor4ii_tree.specs.{Basis.Cost.{Budget, step_in}}
-use Rattle.cbor4ii_tree.specs.{Basis.InputError.{InputError, depth_overflow}}
+use Rattle.cbor4ii_tree.specs.Calls.CanonicalRejects.{CanonicalOtherRejects, CanonicalRejectsBy}
+use Rattle.cbor4ii_tree.specs.Calls.CanonicalRejects.{CanonicalRejectsFrom, CanonicalRejectsWithin}
+use Rattle.cbor4ii_tree.specs.{Calls.CanonicalRejects.CanonicalRejects, Basis.Cost.Budget}
+use Rattle.cbor4ii_tree.specs.{Basis.Cost.step_in, Basis.InputError.{InputError, depth_overflow}}
 use Rattle.cbor4ii_tree.specs.Basis.InputError.{sign_name, kind_name, tag_name, value_name}
-use Rattle.cbor4ii_tree.specs.{Laws.Initials.{initial_string, initial_tag}}
-use Rattle.cbor4ii_tree.specs.{Calls.ReadingRejects.Readable}
-use Rattle.cbor4ii_tree.specs.{Calls.ReadingRejects.ReadingRejects}
-use Rattle.cbor4ii_tree.specs.{Calls.Rejections.{Rejection, RejectsAtStep}}
-use Rattle.cbor4ii_tree.specs.{Calls.Rejections.RejectsInCount}
-use Rattle.cbor4ii_tree.specs.{Inner.Valuing.{RejectsOneValue, RejectsUnder}}
+use Rattle.cbor4ii_tree.specs.Laws.Initials.{initial_string, initial_tag}
+use Rattle.cbor4ii_tree.specs.Calls.ReadingRejects.{Readable, ReadingRejects}
+use Rattle.cbor4ii_tree.specs.Calls.Rejections.{Rejection, RejectsAtStep, RejectsInCount}
+use Rattle.cbor4ii_tree.specs.Inner.Valuing.{RejectsOneValue, RejectsUnder}
 use Rattle.cbor4ii_tree.proofs.{answers.Nesting.reading_by_parts, parts.Widen.each_covers}
 use Rattle.cbor4ii_tree.proofs.{values.Calls.int_rejects, parts.Rejecting.{in_count, headed_by}}
 use Rattle.cbor4ii_tree.proofs.{values.Heads.{at_row, tag_rejects}, values.Sequences.major_of}

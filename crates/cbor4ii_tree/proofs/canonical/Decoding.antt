@@ -1,40 +1,130 @@
 -- Reading a value from its canonical encoding, as a decoding call, and what its answer says.
 use Rattle.std.proofs.Common.{true, ◌≡◌, ℕ, List, [], ◌++◌, length, take, drop, Some, Ok, Err, inl}
-use Rattle.std.proofs.Common.{◌+◌, ◌≤◌, inr, refl, sym, ap, ◌∙◌, subst, arith, IfSome}
-use Rattle.std.proofs.Common.{append-nil, length-append, take-append-drop, suc}
-use Rattle.std.proofs.Math.Seq.{drop-append_seam, take-append_seam}
-use Rattle.std.specs.Prelude.{◌⊎◌}
+use Rattle.std.proofs.Common.{◌+◌, ◌≤◌, inr, refl, sym, ap, ◌∙◌, subst, arith, IfSome, append-nil}
+use Rattle.std.proofs.Common.{length-append, take-append-drop, suc, Option, None, IfOk, IfErr, ap₂}
+use Rattle.std.proofs.{Common.{append_assoc, Vec, Global, String}, Math.Seq.drop-append_seam}
+use Rattle.std.proofs.Math.Seq.{take-append_seam}
+use Rattle.std.specs.Prelude.{◌⊎◌, IsUtf8, string_bytes}
 use Rattle.cbor4ii_rw.specs.{View.View, declared.error.DecodeError.DecodeError}
 use Rattle.cbor4ii_items.specs.InputError.{not_canonical, InputError, input_error_of}
 use Rattle.cbor4ii_items.specs.{Laws.Calls.ok, Laws.Steps.moves_err, Decoding.{Sound, Complete}}
-use Rattle.cbor4ii_items.specs.Decoding.{Rejects, NoneRead, Decodes}
-use Rattle.cbor4ii_tree.specs.{Calls.CanonicalRejects.CanonicalRejects}
-use Rattle.cbor4ii_tree.specs.{Calls.CanonicalShape.DecodesCanonically}
-use Rattle.cbor4ii_tree.specs.{Inner.Does.Does, Basis.Encodings.DecodesTo, Basis.Headline.EofReads}
-use Rattle.cbor4ii_tree.specs.{Basis.InputError.eof}
-use Rattle.cbor4ii_tree.specs.{Basis.InputError.{MayReject, IsEof, IsDepthOverflow, IsFinal}}
-use Rattle.cbor4ii_tree.specs.{Basis.Item.Item}
-use Rattle.cbor4ii_tree.specs.{Calls.ReadingRejects.{ReadingRejects, reading_profile}}
-use Rattle.cbor4ii_tree.specs.{Basis.Tree.bytes}
-use Rattle.cbor4ii_tree.specs.declared.{decode_canonical.Canonical.Canonical, value.Value.Value}
-use Rattle.cbor4ii_tree.specs.Calls.Canonically.{ReadsCanonical, IsNotCanonical}
-use Rattle.cbor4ii_tree.specs.Calls.CanonicalRejects.{CanonicalRejects}
-use Rattle.cbor4ii_tree.specs.Calls.Canonically.{OnlyCanonical, AllCanonical, TakesEncoding}
-use Rattle.cbor4ii_tree.specs.Calls.Canonically.{EveryEncoding, PrefixCanonical, DepthCanonical}
-use Rattle.cbor4ii_tree.specs.Calls.Canonically.{NeverCanonical, OthersCanonical, ValueCanonical}
-use Rattle.cbor4ii_tree.specs.{Calls.Canonically.{ExactCanonical, canonical_format}}
-use Rattle.cbor4ii_tree.specs.{Basis.Cost.{Budget, cost}}
-use Rattle.cbor4ii_tree.specs.{Inner.Valuing.{ReadsOneValue, RejectsOneValue}, Basis.View.view}
+use Rattle.cbor4ii_items.specs.{Decoding.{Rejects, NoneRead, Decodes}, Laws.Answering.fits_zero}
+use Rattle.cbor4ii_items.specs.{Laws.Heads.shortest_fits, Laws.Prefixes.drop_more, Moves.Moves}
+use Rattle.cbor4ii_items.specs.Shortest.{ReadsShortest, ReadsShortestString, RejectsShortest}
+use Rattle.cbor4ii_items.specs.{Head.{head, shortest_width}, Initial.{byte_string, text_string}}
+use Rattle.cbor4ii_tree.specs.Calls.CanonicalRejects.{CanonicalRejects, AtShortest}
+use Rattle.cbor4ii_tree.specs.Calls.CanonicalRejects.{CanonicalTextRejects, ShortestAt}
+use Rattle.cbor4ii_tree.specs.{Calls.CanonicalShape.DecodesCanonically, Inner.Does.Does}
+use Rattle.cbor4ii_tree.specs.{Inner.Does.value_or_error, Basis.Encodings.DecodesTo}
+use Rattle.cbor4ii_tree.specs.{Basis.Headline.EofReads, Basis.InputError.{eof, MayReject, IsEof}}
+use Rattle.cbor4ii_tree.specs.Basis.InputError.{IsDepthOverflow, IsFinal, kind_name, require_utf8}
+use Rattle.cbor4ii_tree.specs.{Basis.InputError.tag_name, Basis.Item.Item}
+use Rattle.cbor4ii_tree.specs.Calls.ReadingRejects.{ReadingRejects, reading_profile}
+use Rattle.cbor4ii_tree.specs.Basis.Tree.{bytes, string}
+use Rattle.cbor4ii_tree.specs.declared.decode_canonical.Canonical.{Canonical}
+use Rattle.cbor4ii_tree.specs.declared.value.Value.{Value, Bytes, Text}
+use Rattle.cbor4ii_tree.specs.Calls.Canonically.{ReadsCanonical, IsNotCanonical, OnlyCanonical}
+use Rattle.cbor4ii_tree.specs.Calls.Canonically.{AllCanonical, TakesEncoding, EveryEncoding}
+use Rattle.cbor4ii_tree.specs.Calls.Canonically.{PrefixCanonical, DepthCanonical, NeverCanonical}
+use Rattle.cbor4ii_tree.specs.Calls.Canonically.{OthersCanonical, ValueCanonical, ExactCanonical}
+use Rattle.cbor4ii_tree.specs.{Calls.Canonically.canonical_format, Basis.Cost.{Budget, cost}}
+use Rattle.cbor4ii_tree.specs.Inner.Valuing.{ReadsOneValue, RejectsOneValue, ReadsUnder, RejectsOf}
+use Rattle.cbor4ii_tree.specs.{Inner.Valuing.{RejectsUnder, TakesTag}, Basis.View.view}
+use Rattle.cbor4ii_tree.specs.{Inner.CanonicalCalls.StringAt, Laws.Binds.step_up}
 use Rattle.cbor4ii_tree.proofs.answers.MayReject.{may_reject, leaves_nothing}
 use Rattle.cbor4ii_tree.proofs.answers.Promises.{if_some, all_bytes, reading_eof_prefix}
-use Rattle.cbor4ii_tree.proofs.canonical.AsValue.{canonically_as_value}
-use Rattle.cbor4ii_tree.proofs.canonical.NotCanonical.{loose, within_never}
-use Rattle.cbor4ii_tree.proofs.canonical.Once.{canonically_once}
+use Rattle.cbor4ii_tree.proofs.{canonical.AsValue.canonically_as_value, canonical.Once.loose}
+use Rattle.cbor4ii_tree.proofs.canonical.Once.{within_never, canonically_once}
 use Rattle.cbor4ii_tree.proofs.encodings.CanonicalShape.{reads_canonically_iff}
 use Rattle.cbor4ii_tree.proofs.encodings.CanonicalShape.{canonical_canonically}
 use Rattle.cbor4ii_tree.proofs.profile.Answer.{no_prefix, no_eof, eof_alone, reading_laws}
 use Rattle.cbor4ii_tree.proofs.{profile.Widen.{persists, reading_widens}, reading.Answer.not_both}
 use Rattle.cbor4ii_tree.proofs.{reading.Answer.{one_reading, tree_of}, reading.Laws.final_stays}
+use Rattle.cbor4ii_tree.proofs.skip_calls.Doing.{Reached, reached_sound, does_ok, call_rejects}
+use Rattle.cbor4ii_tree.proofs.{values.Calls.whole, values.Heads.{at_major, head_at}}
+use Rattle.cbor4ii_tree.proofs.{values.Heads.after_shortest, values.Strings.{view-Bytes, view-Text}}
+
+-- ---- heads and strings that are encoded in one way
+
+-- ---- a shortest head
+
+pub reached_shortest : {E : Type 0} (major n : ℕ) {a m : View} → Moves {E = E} a m (Ok n)
+    → Sound (ReadsShortest major) a m n → Reached (ShortestAt major n) a m
+reached_shortest major n moves s =
+    reached_sound (ReadsShortest major) (ShortestAt major n)
+    (λ xs k c _ r. head_at true major n xs k r.0 (λ e. r.1)) moves s
+
+-- the number that the head of a tag has
+pub tag_shortest : {E : Type 0} {a c : View} (r : Option ℕ) (failure : Option (DecodeError E))
+    → Moves a c (value_or_error r failure) → IfOk (value_or_error r failure)
+    (Sound (ReadsShortest 6) a c)
+    → IfErr (value_or_error r failure) (Rejects (RejectsShortest tag_name 6) a c) → Does
+    (TakesTag true a.budget) (RejectsOf true 6 a.budget) a c (value_or_error r failure)
+tag_shortest {a = a} (Some n) failure moves s h =
+    does_ok _ _ (reached_shortest 6 n moves s)
+tag_shortest {a = a} None failure moves s h =
+    call_rejects {U = ℕ} (TakesTag true a.budget) (RejectsShortest tag_name 6) (RejectsOf true 6
+    a.budget) (λ xs z rest h b bs is m. subst (λ x. RejectsUnder true a.budget x z rest) (sym is)
+    (at_major 6 a.budget b bs z rest m (subst (λ x. AtShortest tag_name 6 a.budget (λ n.
+    RejectsOneValue true a.budget) x z rest) is (inl h)))) moves h
+
+-- ---- strings
+
+pub string_of : (major : ℕ) (content xs : List ℕ) (n c : ℕ)
+    → ReadsShortestString major xs content n c → StringAt major content xs (drop n xs)
+string_of major content xs n c r =
+    let s = r.0 in
+    let k = length content in
+    let h = head_at true major k xs s.before s.head (λ e. r.1) in
+    let left : drop s.before xs ≡ content ++ drop n xs = sym (take-append-drop k (drop s.before xs))
+    ∙ ap₂ ◌++◌ s.stands (drop_more k s.before xs ∙ ap (λ j. drop j xs) (sym s.size)) in
+    (h.0, h.1 ∙ ap (λ z. head major k (shortest_width k) ++ z) left)
+
+pub reached_string : {E : Type 0} (major : ℕ) (v : Vec ℕ Global) {a m : View}
+    → Moves {E = E} a m (Ok v.items) → Sound (ReadsShortestString major) a m v.items
+    → Reached (StringAt major v.items) a m
+reached_string {E = E} major v {a = a} {m = m} moves s = record {
+  kept = moves.by;
+  at = λ xs known. let t = s.at xs known in
+      (drop t.count xs, t.left, string_of major v.items xs t.count t.cost t.read);
+}
+
+-- a whole text that is no UTF-8
+pub no_text : (budget : Budget) (content xs ys : List ℕ) → ¬ (IsUtf8 content)
+    → StringAt 3 content xs ys → CanonicalTextRejects budget xs
+    (require_utf8 (kind_name text_string)) ys
+no_text budget content xs ys invalid h =
+    inr (after_shortest (length content) (content ++ ys) h (record {
+      content = content;
+      long = refl;
+      invalid = invalid;
+      is = refl;
+      err = refl;
+    }))
+
+-- ---- values that are strings
+
+pub bytes_exact : (inner : Budget) (v : Vec ℕ Global) (xs ys : List ℕ) → StringAt 2 v.items xs ys
+    → ReadsUnder true inner xs (Bytes v) ys
+bytes_exact inner v xs ys h budget step =
+    let k = length v.items in (
+      string byte_string (shortest_width k) v.items,
+      whole true budget (string byte_string (shortest_width k) v.items) (shortest_fits k h.0, tt)
+          (λ e. refl) (step_up budget inner 0 step (fits_zero inner)),
+      sym (view-Bytes v),
+      h.1 ∙ sym (append_assoc (head 2 k (shortest_width k)) v.items ys),
+    )
+
+pub text_exact : (inner : Budget) (v : String Global) (xs ys : List ℕ) → IsUtf8 (string_bytes v)
+    → StringAt 3 (string_bytes v) xs ys → ReadsUnder true inner xs (Text v) ys
+text_exact inner v xs ys valid h budget step =
+    let k = length (string_bytes v) in (
+      string text_string (shortest_width k) (string_bytes v),
+      whole true budget (string text_string (shortest_width k) (string_bytes v))
+          (shortest_fits k h.0, valid) (λ e. refl) (step_up budget inner 0 step (fits_zero inner)),
+      sym (view-Text v),
+      h.1 ∙ sym (append_assoc (head 3 k (shortest_width k)) (string_bytes v) ys),
+    )
 
 -- ---- in the words of the definitions
 

@@ -3,29 +3,23 @@ use Rattle.std.proofs.Common.{◌≡◌, ◌≢◌, ℕ, zero, suc, ◌*◌, ◌
 use Rattle.std.proofs.Common.{refl, sym, ap, ◌∙◌, subst, arith, append_assoc}
 use Rattle.std.proofs.lemmas.List.{append_cancel_left}
 use Rattle.std.specs.Int.{bytes_high_first}
-use Rattle.cbor4ii_items.specs.{Budget.CostFits}
-use Rattle.cbor4ii_items.specs.{Head.{Width, byte_count, HeadFits, head, shortest_width}}
-use Rattle.cbor4ii_items.specs.{Heads.ReadsHead, Initial.{unsigned, negative, byte_string}}
-use Rattle.cbor4ii_items.specs.Initial.{text_string, Simple, simple_false, simple_true, simple_null}
-use Rattle.cbor4ii_items.specs.Initial.{simple_undefined, simple_byte, Precision, half, single}
-use Rattle.cbor4ii_items.specs.Initial.{double, initial, precision_byte, precision_bytes}
-use Rattle.cbor4ii_items.specs.{Initial.{starts_simple, starts_bits}, Laws.Answering.fits_zero}
-use Rattle.cbor4ii_items.specs.Laws.Heads.{head_one, shortest_fits, argument_below, byte_count-le}
-use Rattle.cbor4ii_items.specs.Laws.SequenceParts.{fits_max}
+use Rattle.cbor4ii_items.specs.{Budget.CostFits, Head.{Width, byte_count, HeadFits, head}}
+use Rattle.cbor4ii_items.specs.{Head.shortest_width, Heads.ReadsHead, Initial.{unsigned, negative}}
+use Rattle.cbor4ii_items.specs.Initial.{byte_string, text_string, Simple, simple_false}
+use Rattle.cbor4ii_items.specs.Initial.{simple_undefined, simple_byte, Precision, half, initial}
+use Rattle.cbor4ii_items.specs.Initial.{precision_byte, precision_bytes, starts_simple, starts_bits}
+use Rattle.cbor4ii_items.specs.Laws.{Answering.fits_zero, Heads.{head_one, shortest_fits}}
+use Rattle.cbor4ii_items.specs.Laws.{Heads.{argument_below, byte_count-le}, SequenceParts.fits_max}
 use Rattle.cbor4ii_tree.specs.Calls.CanonicalRejects.{FitsCanonically, ShortestAt}
 use Rattle.cbor4ii_tree.specs.Calls.CanonicalShape.{CanonicalShapeAll, CanonicalShapePairs}
-use Rattle.cbor4ii_tree.specs.Calls.CanonicalShape.{CanonicalTree}
+use Rattle.cbor4ii_tree.specs.Calls.{CanonicalShape.CanonicalTree, Rejections.{Each, EachPair}}
 use Rattle.cbor4ii_tree.specs.Basis.Cost.{Budget, cost, greatest_cost, greatest_pair_cost}
-use Rattle.cbor4ii_tree.specs.{Laws.Ignoring.one_encoding, Laws.Initials.initial_simple}
-use Rattle.cbor4ii_tree.specs.{Laws.Initials.initial_bits, Laws.Numbers.additional-lt}
-use Rattle.cbor4ii_tree.specs.{Calls.Rejections.{Each, EachPair}}
-use Rattle.cbor4ii_tree.specs.{Basis.Tree.{Tree, int, string, chunked}}
-use Rattle.cbor4ii_tree.specs.Basis.Tree.{array, array_indefinite, map_of, map_indefinite, tagged}
-use Rattle.cbor4ii_tree.specs.Basis.Tree.{simple}
-use Rattle.cbor4ii_tree.specs.Basis.Tree.{bits, Trees, no_trees, tree, Pairs, no_pairs, pair, count}
+use Rattle.cbor4ii_tree.specs.Basis.Tree.{Tree, int, string, array, map_of, tagged, simple, bits}
+use Rattle.cbor4ii_tree.specs.Basis.Tree.{Trees, no_trees, tree, Pairs, no_pairs, pair, count}
 use Rattle.cbor4ii_tree.specs.Basis.Tree.{pair_count, bytes, bytes_all, bytes_pairs, LooseAll}
-use Rattle.cbor4ii_tree.specs.Basis.Tree.{LoosePairs}
-use Rattle.cbor4ii_tree.specs.Basis.Tree.{SoundStringsAll, SoundStringsPairs}
+use Rattle.cbor4ii_tree.specs.Basis.Tree.{LoosePairs, SoundStringsAll, SoundStringsPairs}
+use Rattle.cbor4ii_tree.specs.Laws.{Ignoring.one_encoding, Initials.{initial_simple, initial_bits}}
+use Rattle.cbor4ii_tree.specs.Laws.Numbers.{additional-lt}
 use Rattle.cbor4ii_tree.proofs.encodings.CanonicalShape.{same_first, first_byte}
 use Rattle.cbor4ii_tree.proofs.parts.Pushed.{flat, count-flat, each-flat, bytes-flat}
 
@@ -151,14 +145,11 @@ arm_other x b xs is major other =
 
 simple_major : (s : Simple) → simple_byte s / 32 ≡ 7
 simple_major simple_false = refl
-simple_major simple_true = refl
-simple_major simple_null = refl
-simple_major simple_undefined = refl
+simple_major _ = refl
 
 pub precision_major : (p : Precision) → precision_byte p / 32 ≡ 7
 precision_major half = refl
-precision_major single = refl
-precision_major double = refl
+precision_major _ = refl
 
 -- what begins with a byte of this major type
 pub arm_of : (t : Tree) (x : ℕ) (xs ys : List ℕ) → CanonicalTree t → x ∷ xs ≡ bytes t ++ ys
@@ -173,12 +164,10 @@ arm_of (string byte_string w content) x xs ys c e =
 arm_of (string text_string w content) x xs ys c e =
     arm_head 3 (length content) x Anything w xs (content ++ ys) (λ a. a) c.0.0 c.1
     (e ∙ append_assoc (head 3 (length content) w) content ys) tt
-arm_of (chunked k ts) x xs ys c e = absurd c.1
 arm_of (array w ts) x xs ys c e =
     arm_head 4 (count ts) x BeginsItems w xs (bytes_all ts ++ ys) (λ a. a) c.0.0.0 c.1.0
     (e ∙ append_assoc (head 4 (count ts) w) (bytes_all ts) ys)
     (ts, ys, refl, each_canonical ts c.0.0.1 c.0.1 c.1.1, refl)
-arm_of (array_indefinite ts) x xs ys c e = absurd c.1
 arm_of (map_of w ps) x xs ys c e =
     arm_head 5 (pair_count ps) x (λ n. BeginsItems (2 * n)) w xs (bytes_pairs ps ++ ys) (λ a. a)
     c.0.0.0 c.1.0 (e ∙ append_assoc (head 5 (pair_count ps) w) (bytes_pairs ps) ys) (
@@ -188,7 +177,6 @@ arm_of (map_of w ps) x xs ys c e =
       each-flat CanonicalTree ps (each_pair_canonical ps c.0.0.1 c.0.1 c.1.1),
       ap (λ r. r ++ ys) (sym (bytes-flat ps)),
     )
-arm_of (map_indefinite ps) x xs ys c e = absurd c.1
 arm_of (tagged n w t) x xs ys c e =
     arm_head 6 n x (λ m. BeginsOne) w xs (bytes t ++ ys) (λ a. a) c.0.0.0 c.1.0
     (e ∙ append_assoc (head 6 n w) (bytes t) ys) (t, ys, ((c.0.0.1, c.0.1), c.1.1), refl)
@@ -201,16 +189,16 @@ arm_of (bits p n) x xs ys c e =
     (precision_bytes p) n ++ ys) e).0 (precision_major p)
     (λ u. (let row : starts_bits p ≡ starts_simple simple_undefined =
     sym (initial_bits p) ∙ u in cc))
+arm_of _ x xs ys c e = absurd c.1
 
 -- after fewer values than there are another one stands
 pub one_after : (b : Budget) (ts us : Trees) (x y : List ℕ) → Each (FitsCanonically b) ts
     → Each CanonicalTree us → bytes_all us ++ x ≡ bytes_all ts ++ y → count ts < count us
     → BeginsOne y
-one_after b no_trees no_trees x y h k e lt = absurd (omega (arith, lt))
 one_after b no_trees (tree u us) x y h k e lt =
     (u, bytes_all us ++ x, k.0, sym e ∙ append_assoc (bytes u) (bytes_all us) x)
-one_after b (tree t ts) no_trees x y h k e lt = absurd (omega (arith, lt))
 one_after b (tree t ts) (tree u us) x y h k e lt =
     let f = one_encoding u t (bytes_all us ++ x) (bytes_all ts ++ y) k.0.0.0 h.0.0.0.0
     (sym (append_assoc (bytes u) (bytes_all us) x) ∙ e ∙ append_assoc (bytes t) (bytes_all ts) y) in
     one_after b ts us x y h.1 k.1 f.1 (omega (arith, lt))
+one_after b _ no_trees x y h k e lt = absurd (omega (arith, lt))

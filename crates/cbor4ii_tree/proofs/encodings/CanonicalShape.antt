@@ -1,44 +1,197 @@
 -- A canonical tree is the one whose bytes are the canonical encoding of its value.
-use Rattle.std.proofs.Common.{◌≡◌, ℕ, ◌+◌, ◌*◌, ◌^◌, ◌<◌, List, [], ◌∷◌, ◌++◌, length, true, false}
-use Rattle.std.proofs.Common.{ltb, ltb-true, lt-ltb, pos, negsuc, refl, sym, ap, ap₂, ◌∙◌, subst}
-use Rattle.std.proofs.{Common.{arith, append_assoc, get_or}, lemmas.List.append_cancel_left}
-use Rattle.std.specs.Prelude.{◌↔◌}
+use Rattle.std.proofs.Common.{◌≡◌, ℕ, ◌+◌, ◌*◌, ◌^◌, ◌<◌, List, [], ◌∷◌, ◌++◌, length, false, ltb}
+use Rattle.std.proofs.Common.{ltb-true, lt-ltb, pos, negsuc, refl, sym, ap, ap₂, ◌∙◌, subst, arith}
+use Rattle.std.proofs.Common.{append_assoc, get_or, suc, Bool, true, cond}
+use Rattle.std.proofs.lemmas.List.{append_cancel_left}
+use Rattle.std.specs.{Prelude.◌↔◌, Int.bytes_high_first}
 use Rattle.cbor4ii_items.specs.{Budget.CostFits, Head.{Width, HeadFits, additional, head}}
-use Rattle.cbor4ii_items.specs.{Head.{indefinite_head, shortest_width, break}}
-use Rattle.cbor4ii_items.specs.{Initial.{Sign, unsigned}}
-use Rattle.cbor4ii_items.specs.Initial.{negative, sign_major, Kind, byte_string, text_string}
-use Rattle.cbor4ii_items.specs.Initial.{kind_major, simple_false, simple_true, simple_null}
+use Rattle.cbor4ii_items.specs.{Head.{indefinite_head, shortest_width, break}, Initial.Sign}
+use Rattle.cbor4ii_items.specs.Initial.{unsigned, negative, sign_major, Kind, byte_string}
+use Rattle.cbor4ii_items.specs.Initial.{text_string, kind_major, simple_false, simple_null}
 use Rattle.cbor4ii_items.specs.Initial.{simple_undefined, simple_byte, info_of}
 use Rattle.cbor4ii_items.specs.Laws.Heads.{if_cases, shortest_fits, argument_below, same_wide}
+use Rattle.cbor4ii_items.specs.Laws.Heads.{length-bytes_high_first}
+use Rattle.cbor4ii_items.specs.Laws.NumbersBack.{length-without_leading_zeros}
 use Rattle.cbor4ii_tree.specs.Basis.Canonical.{with_bignums, canonical_encoding, canonical_cost}
 use Rattle.cbor4ii_tree.specs.Basis.Canonical.{canonical_tree, canonical_trees, canonical_pairs}
-use Rattle.cbor4ii_tree.specs.{Basis.Canonical.integer_tree, Calls.CanonicalShape.CanonicalShape}
-use Rattle.cbor4ii_tree.specs.Calls.CanonicalShape.{CanonicalShapeAll, CanonicalShapePairs}
-use Rattle.cbor4ii_tree.specs.Calls.CanonicalShape.{IsDecoded}
+use Rattle.cbor4ii_tree.specs.Basis.Canonical.{integer_tree, tagged_integer, bignum, magnitude}
+use Rattle.cbor4ii_tree.specs.Basis.Canonical.{sign_tag, with_bignums_all, with_bignums_pairs}
+use Rattle.cbor4ii_tree.specs.Calls.CanonicalShape.{CanonicalShape, CanonicalShapeAll}
+use Rattle.cbor4ii_tree.specs.Calls.CanonicalShape.{CanonicalShapePairs, IsDecoded}
 use Rattle.cbor4ii_tree.specs.Calls.CanonicalShape.{EncodesCanonically, DecodesCanonically}
-use Rattle.cbor4ii_tree.specs.Basis.Item.{AreItemPairs, Item, null, boolean, integer, float}
-use Rattle.cbor4ii_tree.specs.Basis.Item.{bytes_item}
+use Rattle.cbor4ii_tree.specs.Basis.Item.{AreItemPairs, Item, boolean, integer, float, bytes_item}
 use Rattle.cbor4ii_tree.specs.Basis.Item.{text, sequence, mapping, tag, Items, no_items, item}
-use Rattle.cbor4ii_tree.specs.Basis.Item.{ItemPairs}
-use Rattle.cbor4ii_tree.specs.Basis.Item.{no_item_pairs, item_pair, item_count, item_pair_count}
-use Rattle.cbor4ii_tree.specs.Basis.Item.{IsItem, AreItems}
+use Rattle.cbor4ii_tree.specs.Basis.Item.{ItemPairs, no_item_pairs, item_pair, item_count}
+use Rattle.cbor4ii_tree.specs.Basis.Item.{item_pair_count, IsItem, AreItems}
 use Rattle.cbor4ii_tree.specs.{Laws.Ignoring.one_encoding, Laws.Numbers.info-additional}
 use Rattle.cbor4ii_tree.specs.{Laws.PartsAgain.pair_split, Basis.Cost.{cost, Budget}}
-use Rattle.cbor4ii_tree.specs.{Basis.Meaning.value}
-use Rattle.cbor4ii_tree.specs.{Basis.Meaning.{values, pair_values_of, number, content_item}}
-use Rattle.cbor4ii_tree.specs.{Basis.Tree.Tree}
-use Rattle.cbor4ii_tree.specs.Basis.Tree.{int, string, chunked, array, array_indefinite, map_of}
-use Rattle.cbor4ii_tree.specs.Basis.Tree.{map_indefinite, tagged, simple, bits, Trees, no_trees}
-use Rattle.cbor4ii_tree.specs.Basis.Tree.{tree}
-use Rattle.cbor4ii_tree.specs.Basis.Tree.{Pairs, no_pairs, pair, count, pair_count, joined_chunks}
-use Rattle.cbor4ii_tree.specs.Basis.Tree.{bytes}
-use Rattle.cbor4ii_tree.specs.Basis.Tree.{bytes_all, bytes_pairs, Loose, LooseAll, LoosePairs}
-use Rattle.cbor4ii_tree.specs.Basis.Tree.{SoundStrings, SoundStringsAll, SoundStringsPairs, Plain}
-use Rattle.cbor4ii_tree.proofs.encodings.Canonical.{count-canonical_encoding, count-pairs}
-use Rattle.cbor4ii_tree.proofs.encodings.Canonical.{loose_canonical, sound_canonical}
-use Rattle.cbor4ii_tree.proofs.encodings.Canonical.{value-canonical_encoding, with_bignums-value}
+use Rattle.cbor4ii_tree.specs.Basis.Meaning.{value, values, pair_values_of, number, content_item}
+use Rattle.cbor4ii_tree.specs.Basis.Tree.{Tree, int, string, chunked, array, array_indefinite}
+use Rattle.cbor4ii_tree.specs.Basis.Tree.{map_of, map_indefinite, tagged, simple, bits, Trees}
+use Rattle.cbor4ii_tree.specs.Basis.Tree.{no_trees, tree, Pairs, no_pairs, pair, count, pair_count}
+use Rattle.cbor4ii_tree.specs.Basis.Tree.{joined_chunks, bytes, bytes_all, bytes_pairs, Loose}
+use Rattle.cbor4ii_tree.specs.Basis.Tree.{LooseAll, LoosePairs, SoundStrings, SoundStringsAll}
+use Rattle.cbor4ii_tree.specs.{Basis.Tree.{SoundStringsPairs, Plain}, Basis.Encodings.Encodes}
 use Rattle.cbor4ii_tree.proofs.encodings.Sizes.{integer-value, content-value, item_count-values}
 use Rattle.cbor4ii_tree.proofs.encodings.Sizes.{pair_count-values}
+
+-- ---- the canonical encoding is an encoding
+
+length-magnitude : (n : ℕ) → length (magnitude n) < 2 ^ 64
+length-magnitude n =
+    omega
+    (arith, length-without_leading_zeros (bytes_high_first 16 n), length-bytes_high_first 16 n)
+
+pub tag_fits : (s : Sign) → HeadFits (shortest_width (sign_tag s)) (sign_tag s)
+tag_fits unsigned = omega arith
+tag_fits negative = omega arith
+
+loose_integer : (s : Sign) (n : ℕ) → Loose (integer_tree s n)
+loose_integer s n =
+    if_cases Loose (ltb n (2 ^ 64)) _ _ (λ e. shortest_fits n (ltb-true n (2 ^ 64) e))
+    (λ e. (tag_fits s, shortest_fits (length (magnitude n)) (length-magnitude n)))
+
+sound_integer : (s : Sign) (n : ℕ) → SoundStrings (integer_tree s n)
+sound_integer s n = if_cases SoundStrings (ltb n (2 ^ 64)) _ _ (λ e. tt) (λ e. tt)
+
+pub count-canonical_encoding : (vs : Items) → count (canonical_trees vs) ≡ item_count vs
+count-canonical_encoding no_items = refl
+count-canonical_encoding (item v vs) = ap suc (count-canonical_encoding vs)
+
+pub count-pairs : (ms : ItemPairs) → pair_count (canonical_pairs ms) ≡ item_pair_count ms
+count-pairs no_item_pairs = refl
+count-pairs (item_pair k v ms) = ap suc (count-pairs ms)
+
+definite_fits : (n m : ℕ) → n ≡ m → m < 2 ^ 64 → HeadFits (shortest_width m) n
+definite_fits n m e h = subst (HeadFits (shortest_width m)) (sym e) (shortest_fits m h)
+
+mutual
+  pub loose_canonical : (v : Item) → IsItem v → Loose (canonical_tree v)
+  loose_canonical (integer (pos n)) h = loose_integer unsigned n
+  loose_canonical (integer (negsuc n)) h = loose_integer negative n
+  loose_canonical (float p n) h = h
+  loose_canonical (bytes_item bs) h = shortest_fits (length bs) h
+  loose_canonical (text bs) h = shortest_fits (length bs) h.0
+  loose_canonical (sequence vs) h =
+      (definite_fits _ _ (count-canonical_encoding vs) h.0, loose_canonical_all vs h.1)
+  loose_canonical (mapping ms) h =
+      (definite_fits _ _ (count-pairs ms) h.0, loose_canonical_pairs ms h.1)
+  loose_canonical (tag n v) h = (shortest_fits n h.0, loose_canonical v h.1)
+  loose_canonical _ h = tt
+
+  loose_canonical_all : (vs : Items) → AreItems vs → LooseAll (canonical_trees vs)
+  loose_canonical_all no_items h = tt
+  loose_canonical_all (item v vs) h = (loose_canonical v h.0, loose_canonical_all vs h.1)
+
+  loose_canonical_pairs : (ms : ItemPairs) → AreItemPairs ms → LoosePairs (canonical_pairs ms)
+  loose_canonical_pairs no_item_pairs h = tt
+  loose_canonical_pairs (item_pair k v ms) h =
+      (loose_canonical k h.0, loose_canonical v h.1, loose_canonical_pairs ms h.2)
+
+mutual
+  pub sound_canonical : (v : Item) → IsItem v → SoundStrings (canonical_tree v)
+  sound_canonical (integer (pos n)) h = sound_integer unsigned n
+  sound_canonical (integer (negsuc n)) h = sound_integer negative n
+  sound_canonical (text bs) h = h.1
+  sound_canonical (sequence vs) h = sound_canonical_all vs h.1
+  sound_canonical (mapping ms) h = sound_canonical_pairs ms h.1
+  sound_canonical (tag n v) h = sound_canonical v h.1
+  sound_canonical _ h = tt
+
+  sound_canonical_all : (vs : Items) → AreItems vs → SoundStringsAll (canonical_trees vs)
+  sound_canonical_all no_items h = tt
+  sound_canonical_all (item v vs) h = (sound_canonical v h.0, sound_canonical_all vs h.1)
+
+  sound_canonical_pairs : (ms : ItemPairs) → AreItemPairs ms → SoundStringsPairs
+      (canonical_pairs ms)
+  sound_canonical_pairs no_item_pairs h = tt
+  sound_canonical_pairs (item_pair k v ms) h =
+      (sound_canonical k h.0, sound_canonical v h.1, sound_canonical_pairs ms h.2)
+
+value_integer : (s : Sign) (n : ℕ)
+    → value (integer_tree s n) ≡ tagged_integer s n (integer (number s n))
+value_integer s n = value_if (ltb n (2 ^ 64))
+  where
+    value_if : (b : Bool) → value (cond b (Tree.int s n (shortest_width n)) (bignum s n)) ≡ cond b
+        (integer (number s n)) (tag (sign_tag s) (bytes_item (magnitude n)))
+    value_if true = refl
+    value_if false = refl
+
+mutual
+  pub value-canonical_encoding : (v : Item) → value (canonical_tree v) ≡ with_bignums v
+  value-canonical_encoding (boolean false) = refl
+  value-canonical_encoding (integer (pos n)) = value_integer unsigned n
+  value-canonical_encoding (integer (negsuc n)) = value_integer negative n
+  value-canonical_encoding (sequence vs) = ap sequence (values-canonical_encoding vs)
+  value-canonical_encoding (mapping ms) = ap mapping (pair_values-canonical_encoding ms)
+  value-canonical_encoding (tag n v) = ap (tag n) (value-canonical_encoding v)
+  value-canonical_encoding _ = refl
+
+  values-canonical_encoding : (vs : Items) → values (canonical_trees vs) ≡ with_bignums_all vs
+  values-canonical_encoding no_items = refl
+  values-canonical_encoding (item v vs) =
+      ap₂ item (value-canonical_encoding v) (values-canonical_encoding vs)
+
+  pair_values-canonical_encoding : (ms : ItemPairs) → pair_values_of (canonical_pairs ms) ≡
+      with_bignums_pairs ms
+  pair_values-canonical_encoding no_item_pairs = refl
+  pair_values-canonical_encoding (item_pair k v ms) =
+      cc (
+        value-canonical_encoding k,
+        value-canonical_encoding v,
+        pair_values-canonical_encoding ms,
+      )
+
+-- the canonical encoding is read back, with each large integer as its bignum
+pub canonical_encodes : (v : Item) → IsItem v → Encodes (canonical_encoding v) (with_bignums v)
+    (cost (canonical_tree v))
+canonical_encodes v h = record {
+  of_tree = canonical_tree v;
+  plain = (loose_canonical v h, sound_canonical v h);
+  bytes_are = refl;
+  value_is = value-canonical_encoding v;
+  cost_is = refl;
+}
+
+-- ---- what is read is no integer beyond its heads
+
+tagged_integer-small : (s : Sign) (n : ℕ) → n < 2 ^ 64
+    → tagged_integer s n (integer (number s n)) ≡ integer (number s n)
+tagged_integer-small s n h = rw (lt-ltb n (2 ^ 64) h) refl
+
+with_bignums-number : (s : Sign) (n : ℕ) → n < 2 ^ 64
+    → with_bignums (integer (number s n)) ≡ integer (number s n)
+with_bignums-number unsigned n h = tagged_integer-small unsigned n h
+with_bignums-number negative n h = tagged_integer-small negative n h
+
+with_bignums-content : (k : Kind) (content : List ℕ)
+    → with_bignums (content_item k content) ≡ content_item k content
+with_bignums-content byte_string content = refl
+with_bignums-content text_string content = refl
+
+mutual
+  pub with_bignums-value : (t : Tree) → Loose t → with_bignums (value t) ≡ value t
+  with_bignums-value (int s n w) h = with_bignums-number s n (argument_below w n h)
+  with_bignums-value (string k w content) h = with_bignums-content k content
+  with_bignums-value (chunked k ts) h = with_bignums-content k (joined_chunks ts)
+  with_bignums-value (array w ts) h = ap sequence (with_bignums-values ts h.1)
+  with_bignums-value (array_indefinite ts) h = ap sequence (with_bignums-values ts h)
+  with_bignums-value (map_of w ps) h = ap mapping (with_bignums-pair_values ps h.1)
+  with_bignums-value (map_indefinite ps) h = ap mapping (with_bignums-pair_values ps h)
+  with_bignums-value (tagged n w t) h = ap (tag n) (with_bignums-value t h.1)
+  with_bignums-value (simple simple_false) h = refl
+  with_bignums-value _ h = refl
+
+  with_bignums-values : (ts : Trees) → LooseAll ts → with_bignums_all (values ts) ≡ values ts
+  with_bignums-values no_trees h = refl
+  with_bignums-values (tree t ts) h =
+      ap₂ item (with_bignums-value t h.0) (with_bignums-values ts h.1)
+
+  with_bignums-pair_values : (ps : Pairs) → LoosePairs ps
+      → with_bignums_pairs (pair_values_of ps) ≡ pair_values_of ps
+  with_bignums-pair_values no_pairs h = refl
+  with_bignums-pair_values (pair k v ps) h =
+      cc (with_bignums-value k h.0, with_bignums-value v h.1, with_bignums-pair_values ps h.2)
 
 -- ---- what encoders write has the shape
 
@@ -47,9 +200,7 @@ shape_integer s n = if_cases CanonicalShape (ltb n (2 ^ 64)) _ _ (λ e. refl) (�
 
 mutual
   pub shape_canonical : (v : Item) → CanonicalShape (canonical_tree v)
-  shape_canonical null = λ e. cc
   shape_canonical (boolean false) = λ e. cc
-  shape_canonical (boolean true) = λ e. cc
   shape_canonical (integer (pos n)) = shape_integer unsigned n
   shape_canonical (integer (negsuc n)) = shape_integer negative n
   shape_canonical (float p n) = tt
@@ -63,6 +214,7 @@ mutual
         ms,
   )
   shape_canonical (tag n v) = (refl, shape_canonical v)
+  shape_canonical _ = λ e. cc
 
   shape_canonical_all : (vs : Items) → CanonicalShapeAll (canonical_trees vs)
   shape_canonical_all no_items = tt
@@ -101,11 +253,8 @@ mutual
       (canonical_of_shape_pairs ps l.1 h.1)
   canonical_of_shape (map_indefinite ps) l h = absurd h
   canonical_of_shape (tagged n w t) l h = ap₂ (tagged n) (sym h.0) (canonical_of_shape t l.1 h.1)
-  canonical_of_shape (simple simple_false) l h = refl
-  canonical_of_shape (simple simple_true) l h = refl
-  canonical_of_shape (simple simple_null) l h = refl
   canonical_of_shape (simple simple_undefined) l h = absurd (h refl)
-  canonical_of_shape (bits p n) l h = refl
+  canonical_of_shape _ l h = refl
 
   canonical_of_shape_all : (ts : Trees) → LooseAll ts → CanonicalShapeAll ts → canonical_trees
       (values ts) ≡ ts
@@ -216,15 +365,13 @@ mutual
       let heads = same_headed 6 n w (bytes t) (canonical_encoding (value t)) x y l.0 refl refl e in
       let rest = shape_of_canonical t x y l.1 heads.1 in
       ((heads.0, rest.0), rest.1)
-  shape_of_canonical (simple simple_false) x y l e = (λ u. cc, (same_first _ _ _ _ e).1)
-  shape_of_canonical (simple simple_true) x y l e = (λ u. cc, (same_first _ _ _ _ e).1)
-  shape_of_canonical (simple simple_null) x y l e = (λ u. cc, (same_first _ _ _ _ e).1)
   shape_of_canonical (simple simple_undefined) x y l e =
       absurd (omega (
         arith,
         (same_first (simple_byte simple_undefined) (simple_byte simple_null) x y e).0,
       ))
   shape_of_canonical (bits p n) x y l e = (tt, append_cancel_left (bytes (bits p n)) x y e)
+  shape_of_canonical _ x y l e = (λ u. cc, (same_first _ _ _ _ e).1)
 
   shape_of_canonical_all : (ts : Trees) (x y : List ℕ) → LooseAll ts
       → bytes_all ts ++ x ≡ bytes_all (canonical_trees (values ts)) ++ y → CanonicalShapeAll ts ×
@@ -293,18 +440,12 @@ mutual
   pairs_of_shape (pair k v ps) l u h =
       (item_of_shape k l.0 u.0 h.0, item_of_shape v l.1 u.1 h.1, pairs_of_shape ps l.2 u.2 h.2)
 
--- the tree of a value is the one that encoders write
-pub canonically_canonical : (encoding : List ℕ) (v : Item) (steps : ℕ)
-    → (s : EncodesCanonically encoding v steps) → canonical_tree v ≡ s.of_tree
-canonically_canonical encoding v steps s =
-    ap canonical_tree (sym s.value_is) ∙ canonical_of_shape s.of_tree s.canonical.0.0 s.canonical.1
-
 -- what is encoded so is the canonical encoding of a value that reading gives, at its cost
 pub canonically_encoded : (encoding : List ℕ) (v : Item) (steps : ℕ) → EncodesCanonically encoding
     v steps
     → IsDecoded v × (encoding ≡ canonical_encoding v) × (steps ≡ canonical_cost v)
 canonically_encoded encoding v steps s =
-    let same = canonically_canonical encoding v steps s in
+    let same = (ap canonical_tree (sym s.value_is) ∙ canonical_of_shape s.of_tree s.canonical.0.0 s.canonical.1) in
     let p = s.canonical.0 in (
       (
         subst IsItem s.value_is (item_of_shape s.of_tree p.0 p.1 s.canonical.1),

@@ -16,31 +16,26 @@ use Rattle.cbor4ii_items.specs.Head.{eight, HeadFits, additional, byte_count, he
 use Rattle.cbor4ii_items.specs.Initial.{Sign, unsigned, negative, sign_major, half, single, double}
 use Rattle.cbor4ii_items.specs.Initial.{info_of}
 use Rattle.cbor4ii_tree.specs.Basis.Canonical.{canonical_encoding, canonical_trees, canonical_pairs}
-use Rattle.cbor4ii_tree.specs.{Basis.Canonical.{bignum, magnitude, sign_tag}}
-use Rattle.cbor4ii_tree.specs.{Basis.Item.{Item, null, boolean}}
-use Rattle.cbor4ii_tree.specs.Basis.Item.{integer, float, bytes_item, text, sequence, mapping, tag}
-use Rattle.cbor4ii_tree.specs.{Basis.Item.{item_count, item_pair_count}}
-use Rattle.cbor4ii_tree.specs.{Calls.Order.{Compares, shortest_parts}}
-use Rattle.cbor4ii_tree.specs.Calls.Order.{integer_parts, head_of, HasHead, after_head}
-use Rattle.cbor4ii_tree.specs.Calls.Order.{integer_major}
-use Rattle.cbor4ii_tree.specs.{Calls.Order.{major_of, elements_of, pairs_of}}
-use Rattle.cbor4ii_tree.specs.{Basis.Tree.{int, bytes}}
+use Rattle.cbor4ii_tree.specs.{Basis.Canonical.{bignum, magnitude, sign_tag}, Basis.Item.Item}
+use Rattle.cbor4ii_tree.specs.Basis.Item.{null, boolean, integer, float, bytes_item, text, sequence}
+use Rattle.cbor4ii_tree.specs.Basis.Item.{mapping, tag, item_count, item_pair_count}
+use Rattle.cbor4ii_tree.specs.Calls.Order.{Compares, shortest_parts, integer_parts, head_of}
+use Rattle.cbor4ii_tree.specs.Calls.Order.{HasHead, after_head, integer_major, major_of}
+use Rattle.cbor4ii_tree.specs.{Calls.Order.{elements_of, pairs_of}, Basis.Tree.{int, bytes}}
 use Rattle.cbor4ii_tree.specs.Basis.Tree.{bytes_all, bytes_pairs}
-use Rattle.cbor4ii_tree.proofs.encodings.Canonical.{count-canonical_encoding, count-pairs, tag_fits}
-use Rattle.cbor4ii_tree.proofs.encodings.CanonicalShape.{additional-shortest}
+use Rattle.cbor4ii_tree.proofs.encodings.CanonicalShape.{count-canonical_encoding, count-pairs}
+use Rattle.cbor4ii_tree.proofs.encodings.CanonicalShape.{tag_fits, additional-shortest}
 
 -- ---- one comparison, and then another
 
 pub then-Equal : (r : Ordering) → ordering_then r Equal ≡ r
 then-Equal Less = refl
-then-Equal Equal = refl
-then-Equal Greater = refl
+then-Equal _ = refl
 
 then_assoc : (r s t : Ordering) → ordering_then (ordering_then r s) t
     ≡ ordering_then r (ordering_then s t)
 then_assoc Less s t = refl
-then_assoc Equal s t = refl
-then_assoc Greater s t = refl
+then_assoc _ s t = refl
 
 -- bytes that compare so alone compare so as lists
 pub compares_alone : {r : Ordering} {s t : List ℕ} → Compares r s t → r ≡ slice_cmp nat_cmp s t
@@ -57,9 +52,8 @@ compares_then {r} {o} {s} {t} {u} {v} a b = record {
 }
 
 decides : (r : Ordering) → r ≢ Equal → (o p : Ordering) → ordering_then r o ≡ ordering_then r p
-decides Less n o p = refl
 decides Equal n o p = absurd (n refl)
-decides Greater n o p = refl
+decides _ n o p = refl
 
 -- what differs decides
 pub compares_first : {r : Ordering} {s t : List ℕ} (u v : List ℕ) → r ≢ Equal → Compares r s t
@@ -85,9 +79,8 @@ compares_back {r} {s} {t} a = record {
 -- the first byte, and then the rest
 first_then : (o r before after : Ordering) → (o ≡ Equal → before ≡ ordering_then r after)
     → ordering_then o before ≡ ordering_then (ordering_then o r) after
-first_then Less r before after h = refl
 first_then Equal r before after h = h refl
-first_then Greater r before after h = refl
+first_then _ r before after h = refl
 
 nat_cmp-Equal : (b c : ℕ) → nat_cmp b c ≡ Equal → b ≡ c
 nat_cmp-Equal b c e = subst (λ o. MatchOrdering o (b < c) (b ≡ c) (c < b)) e (ranks b c)
@@ -106,9 +99,8 @@ compares_cons b c {r} {s} {t} h = record {
 -- bytes of one length
 pub compares_bytes : (s t : List ℕ) → length s ≡ length t → Compares (slice_cmp nat_cmp s t) s t
 compares_bytes [] [] e = compares_nothing
-compares_bytes [] (c ∷ t) e = absurd (omega arith)
-compares_bytes (b ∷ s) [] e = absurd (omega arith)
 compares_bytes (b ∷ s) (c ∷ t) e = compares_cons b c (λ _. compares_bytes s t (omega arith))
+compares_bytes _ _ e = absurd (omega arith)
 
 -- ---- numbers as bytes
 
@@ -139,9 +131,6 @@ byte_up (suc k) n =
     pow-le-pow_right {n = 256} (omega arith) {i = 0} {j = suc k} (omega arith) in
     rw (wider, mod-mul n {m = 256} {c = unit} (omega arith) some) (omega arith)
 
-unit_some : (k : ℕ) → 0 < 256 ^ k
-unit_some k = pow-le-pow_right {n = 256} (omega arith) {i = 0} {j = k} (omega arith)
-
 low_digits : (k n m : ℕ) → Compares (nat_cmp (n % 256 ^ k) (m % 256 ^ k)) (bytes_high_first k n)
     (bytes_high_first k m)
 low_digits zero n m =
@@ -155,7 +144,7 @@ low_digits (suc k) n m =
     (compares_cons (byte_at k n) (byte_at k m) (λ _. low_digits k n m))
   where
     mod_below : (j : ℕ) → j % 256 ^ k < 256 ^ k
-    mod_below j = omega (arith, unit_some k)
+    mod_below j = omega (arith, (pow-le-pow_right {n = 256} (omega arith) {i = 0} {j = k} (omega arith)))
 
 -- numbers of so many bytes compare as these do
 digits : (k n m : ℕ) → n < 256 ^ k → m < 256 ^ k
@@ -302,19 +291,16 @@ integer_major_is s n = by (ltb n (2 ^ 64))
     by false = major_is 6 (sign_tag s)
 
 pub major_of_head : (v : Item) → (head_of v).0 / 32 ≡ major_of v
-major_of_head null = refl
 major_of_head (boolean false) = refl
-major_of_head (boolean true) = refl
 major_of_head (integer (pos n)) = integer_major_is unsigned n
 major_of_head (integer (negsuc n)) = integer_major_is negative n
 major_of_head (float half n) = refl
-major_of_head (float single n) = refl
-major_of_head (float double n) = refl
 major_of_head (bytes_item bs) = major_is 2 (length bs)
 major_of_head (text bs) = major_is 3 (length bs)
 major_of_head (sequence vs) = major_is 4 (item_count vs)
 major_of_head (mapping ms) = major_is 5 (item_pair_count ms)
 major_of_head (tag n v) = major_is 6 n
+major_of_head _ = refl
 
 pub same_major : (v w : Item) → head_of v ≡ head_of w → major_of v ≡ major_of w
 same_major v w e = sym (major_of_head v) ∙ ap (λ h. h.0 / 32) e ∙ major_of_head w

@@ -8,19 +8,15 @@ use Rattle.std.specs.{Prelude.{nat_lt, if◌then◌else◌}, Str.{is_utf8, chars
 use Prim.Native.String.{String}
 use Rattle.cbor4ii_items.specs.Initial.{half, single, double, initial}
 use Rattle.cbor4ii_tree.specs.Basis.Canonical.{canonical_encoding, canonical_cost, with_bignums}
-use Rattle.cbor4ii_tree.specs.{Basis.Cost.{cost, skip_cost}}
-use Rattle.cbor4ii_tree.specs.{Basis.InputError.{InputError, eof, mismatch}}
-use Rattle.cbor4ii_tree.specs.Basis.InputError.{unsupported, require_length, require_utf8}
-use Rattle.cbor4ii_tree.specs.Basis.InputError.{depth_overflow}
-use Rattle.cbor4ii_tree.specs.{Basis.InputError.{Small, Big, Indefinite}}
-use Rattle.cbor4ii_tree.specs.{Basis.Item.{Item, null, boolean}}
-use Rattle.cbor4ii_tree.specs.Basis.Item.{integer, float, bytes_item, text, sequence, mapping, tag}
-use Rattle.cbor4ii_tree.specs.Basis.Item.{size}
-use Rattle.cbor4ii_tree.specs.Calls.Parse.{Answer, parse_argument, trees_at, pairs_at}
-use Rattle.cbor4ii_tree.specs.{Calls.Parse.{indefinite_trees_at, indefinite_pairs_at}}
-use Rattle.cbor4ii_tree.specs.{Calls.Read.parse_value}
-use Rattle.cbor4ii_tree.specs.{Calls.ItemAt.item_within, Calls.Read.read_tree, Calls.Skip.skip}
-use Rattle.cbor4ii_tree.specs.{Basis.Tree.Tree, Basis.View.{items_of, item_pairs_of}}
+use Rattle.cbor4ii_tree.specs.{Basis.Cost.{cost, skip_cost}, Basis.InputError.{InputError, eof}}
+use Rattle.cbor4ii_tree.specs.Basis.InputError.{mismatch, unsupported, require_length, require_utf8}
+use Rattle.cbor4ii_tree.specs.Basis.InputError.{depth_overflow, Small, Big, Indefinite}
+use Rattle.cbor4ii_tree.specs.Basis.Item.{Item, null, boolean, integer, float, bytes_item, text}
+use Rattle.cbor4ii_tree.specs.{Basis.Item.{sequence, mapping, tag, size}, Calls.Parse.Answer}
+use Rattle.cbor4ii_tree.specs.Calls.Parse.{parse_argument, trees_at, pairs_at, indefinite_trees_at}
+use Rattle.cbor4ii_tree.specs.{Calls.Parse.indefinite_pairs_at, Calls.Read.{parse_value, read_tree}}
+use Rattle.cbor4ii_tree.specs.{Calls.ItemAt.item_within, Calls.Skip.skip, Basis.Tree.Tree}
+use Rattle.cbor4ii_tree.specs.Basis.View.{items_of, item_pairs_of}
 
 -- ---- how rows are written
 
@@ -56,6 +52,11 @@ items vs = sequence (items_of vs)
 abbrev pairs : List (Item × Item) → Item
 pairs ms = mapping (item_pairs_of ms)
 
+-- [1, [2, 3], [4, 5]]
+abbrev nested : Item
+nested =
+    items (number 1 ∷ items (number 2 ∷ number 3 ∷ []) ∷ items (number 4 ∷ number 5 ∷ []) ∷ [])
+
 -- each is what it has to be
 abbrev firsts : {A : Type 0} → List (A × A) → List A
 firsts [] = []
@@ -75,6 +76,10 @@ Read = Answer Item × List ℕ
 abbrev reads : String → Item → String → Read × Read
 reads input v written =
     ((parse_value (Some 256) (hex input), canonical_encoding v), (Ok (v, []), hex written))
+
+-- the same, where the input is how it is written
+abbrev canonical : String → Item → Read × Read
+canonical input v = reads input v input
 
 abbrev writes : Item → String → List ℕ × List ℕ
 writes v written = (canonical_encoding v, hex written)
@@ -120,30 +125,28 @@ skip_rejects = skip_rejects_under 256
 
 -- Integers, each in its shortest head (appendix A), and bignums as tags (section 3.4.3).
 pub integers_rows : AllEqual
-    (reads "00" (number 0) "00"
-    ∷ reads "01" (number 1) "01"
-    ∷ reads "0a" (number 10) "0a"
-    ∷ reads "17" (number 23) "17"
-    ∷ reads "18 18" (number 24) "18 18"
-    ∷ reads "18 19" (number 25) "18 19"
-    ∷ reads "18 64" (number 100) "18 64"
-    ∷ reads "19 03 e8" (number 1000) "19 03 e8"
-    ∷ reads "1a 00 0f 42 40" (number 1000000) "1a 00 0f 42 40"
-    ∷ reads "1b 00 00 00 e8 d4 a5 10 00" (number 1000000000000) "1b 00 00 00 e8 d4 a5 10 00"
-    ∷ reads "1b ff ff ff ff ff ff ff ff" (number 18446744073709551615) "1b ff ff ff ff ff ff ff ff"
-    ∷ reads "20" (integer (negsuc 0)) "20"
-    ∷ reads "29" (integer (negsuc 9)) "29"
-    ∷ reads "38 63" (integer (negsuc 99)) "38 63"
-    ∷ reads "38 ff" (integer (negsuc 255)) "38 ff"
-    ∷ reads "39 03 e7" (integer (negsuc 999)) "39 03 e7"
-    ∷ reads "39 ff ff" (integer (negsuc 65535)) "39 ff ff"
-    ∷ reads "3a ff ff ff ff" (integer (negsuc 4294967295)) "3a ff ff ff ff"
-    ∷ reads "3b ff ff ff ff ff ff ff ff" (integer (negsuc 18446744073709551615))
-    "3b ff ff ff ff ff ff ff ff"
-    ∷ reads "c2 49 01 00 00 00 00 00 00 00 00" (tag 2 (octets "01 00 00 00 00 00 00 00 00"))
-    "c2 49 01 00 00 00 00 00 00 00 00"
-    ∷ reads "c3 49 01 00 00 00 00 00 00 00 00" (tag 3 (octets "01 00 00 00 00 00 00 00 00"))
-    "c3 49 01 00 00 00 00 00 00 00 00" ∷ [])
+    (canonical "00" (number 0)
+    ∷ canonical "01" (number 1)
+    ∷ canonical "0a" (number 10)
+    ∷ canonical "17" (number 23)
+    ∷ canonical "18 18" (number 24)
+    ∷ canonical "18 19" (number 25)
+    ∷ canonical "18 64" (number 100)
+    ∷ canonical "19 03 e8" (number 1000)
+    ∷ canonical "1a 00 0f 42 40" (number 1000000)
+    ∷ canonical "1b 00 00 00 e8 d4 a5 10 00" (number 1000000000000)
+    ∷ canonical "1b ff ff ff ff ff ff ff ff" (number 18446744073709551615)
+    ∷ canonical "20" (integer (negsuc 0))
+    ∷ canonical "29" (integer (negsuc 9))
+    ∷ canonical "38 63" (integer (negsuc 99))
+    ∷ canonical "38 ff" (integer (negsuc 255))
+    ∷ canonical "39 03 e7" (integer (negsuc 999))
+    ∷ canonical "39 ff ff" (integer (negsuc 65535))
+    ∷ canonical "3a ff ff ff ff" (integer (negsuc 4294967295))
+    ∷ canonical "3b ff ff ff ff ff ff ff ff" (integer (negsuc 18446744073709551615))
+    ∷ canonical "c2 49 01 00 00 00 00 00 00 00 00" (tag 2 (octets "01 00 00 00 00 00 00 00 00"))
+    ∷ canonical "c3 49 01 00 00 00 00 00 00 00 00"
+    (tag 3 (octets "01 00 00 00 00 00 00 00 00")) ∷ [])
     × AllEqual (writes (number 18446744073709551616) "c2 49 01 00 00 00 00 00 00 00 00"
     ∷ writes (integer (negsuc 18446744073709551616)) "c3 49 01 00 00 00 00 00 00 00 00"
     ∷ writes (number 18446744073709551714) "c2 49 01 00 00 00 00 00 00 00 62"
@@ -172,77 +175,64 @@ longer_rows = refl
 
 -- Simple values and floats, whose bits are kept with their width (section 3.3). Undefined is null.
 pub simples_rows : AllEqual
-    (reads "f4" (boolean false) "f4"
-    ∷ reads "f5" (boolean true) "f5"
-    ∷ reads "f6" null "f6"
+    (canonical "f4" (boolean false)
+    ∷ canonical "f5" (boolean true)
+    ∷ canonical "f6" null
     ∷ reads "f7" null "f6"
-    ∷ reads "f9 00 00" (float half 0x0000) "f9 00 00"
-    ∷ reads "f9 80 00" (float half 0x8000) "f9 80 00"
-    ∷ reads "f9 3c 00" (float half 0x3c00) "f9 3c 00"
-    ∷ reads "f9 7b ff" (float half 0x7bff) "f9 7b ff"
-    ∷ reads "f9 7e 00" (float half 0x7e00) "f9 7e 00"
-    ∷ reads "f9 fc 00" (float half 0xfc00) "f9 fc 00"
-    ∷ reads "fa 47 c3 50 00" (float single 0x47c35000) "fa 47 c3 50 00"
-    ∷ reads "fa 7f 80 00 00" (float single 0x7f800000) "fa 7f 80 00 00"
-    ∷ reads "fa 7f c0 00 00" (float single 0x7fc00000) "fa 7f c0 00 00"
-    ∷ reads "fb 3f f1 99 99 99 99 99 9a" (float double 0x3ff199999999999a)
-    "fb 3f f1 99 99 99 99 99 9a"
-    ∷ reads "fb 7e 37 e4 3c 88 00 75 9c" (float double 0x7e37e43c8800759c)
-    "fb 7e 37 e4 3c 88 00 75 9c"
-    ∷ reads "fb c0 10 66 66 66 66 66 66" (float double 0xc010666666666666)
-    "fb c0 10 66 66 66 66 66 66" ∷ [])
+    ∷ canonical "f9 00 00" (float half 0x0000)
+    ∷ canonical "f9 80 00" (float half 0x8000)
+    ∷ canonical "f9 3c 00" (float half 0x3c00)
+    ∷ canonical "f9 7b ff" (float half 0x7bff)
+    ∷ canonical "f9 7e 00" (float half 0x7e00)
+    ∷ canonical "f9 fc 00" (float half 0xfc00)
+    ∷ canonical "fa 47 c3 50 00" (float single 0x47c35000)
+    ∷ canonical "fa 7f 80 00 00" (float single 0x7f800000)
+    ∷ canonical "fa 7f c0 00 00" (float single 0x7fc00000)
+    ∷ canonical "fb 3f f1 99 99 99 99 99 9a" (float double 0x3ff199999999999a)
+    ∷ canonical "fb 7e 37 e4 3c 88 00 75 9c" (float double 0x7e37e43c8800759c)
+    ∷ canonical "fb c0 10 66 66 66 66 66 66" (float double 0xc010666666666666) ∷ [])
 unfolding item_within trees_at pairs_at indefinite_trees_at indefinite_pairs_at
     parse_argument initial is_utf8 chars lib.Utf8.encode
 simples_rows = refl
 
 -- Byte strings, texts and tags (appendix A).
 pub strings_rows : AllEqual
-    (reads "40" (octets "") "40"
-    ∷ reads "44 01 02 03 04" (octets "01 02 03 04") "44 01 02 03 04"
-    ∷ reads "60" (text []) "60"
-    ∷ reads "61 61" (str "a") "61 61"
-    ∷ reads "64 49 45 54 46" (str "IETF") "64 49 45 54 46"
-    ∷ reads "62 22 5c" (text (hex "22 5c")) "62 22 5c"
-    ∷ reads "62 c3 bc" (text (hex "c3 bc")) "62 c3 bc"
-    ∷ reads "63 e6 b0 b4" (text (hex "e6 b0 b4")) "63 e6 b0 b4"
-    ∷ reads "64 f0 90 85 91" (text (hex "f0 90 85 91")) "64 f0 90 85 91"
-    ∷ reads "c0 74 32 30 31 33 2d 30 33 2d 32 31 54 32 30 3a 30 34 3a 30 30 5a"
+    (canonical "40" (octets "")
+    ∷ canonical "44 01 02 03 04" (octets "01 02 03 04")
+    ∷ canonical "60" (text [])
+    ∷ canonical "61 61" (str "a")
+    ∷ canonical "64 49 45 54 46" (str "IETF")
+    ∷ canonical "62 22 5c" (text (hex "22 5c"))
+    ∷ canonical "62 c3 bc" (text (hex "c3 bc"))
+    ∷ canonical "63 e6 b0 b4" (text (hex "e6 b0 b4"))
+    ∷ canonical "64 f0 90 85 91" (text (hex "f0 90 85 91"))
+    ∷ canonical "c0 74 32 30 31 33 2d 30 33 2d 32 31 54 32 30 3a 30 34 3a 30 30 5a"
     (tag 0 (str "2013-03-21T20:04:00Z"))
-    "c0 74 32 30 31 33 2d 30 33 2d 32 31 54 32 30 3a 30 34 3a 30 30 5a"
-    ∷ reads "c1 1a 51 4b 67 b0" (tag 1 (number 1363896240)) "c1 1a 51 4b 67 b0"
-    ∷ reads "c1 fb 41 d4 52 d9 ec 20 00 00" (tag 1 (float double 0x41d452d9ec200000))
-    "c1 fb 41 d4 52 d9 ec 20 00 00"
-    ∷ reads "d7 44 01 02 03 04" (tag 23 (octets "01 02 03 04")) "d7 44 01 02 03 04"
-    ∷ reads "d8 18 45 64 49 45 54 46" (tag 24 (octets "64 49 45 54 46")) "d8 18 45 64 49 45 54 46"
-    ∷ reads "d8 20 76 68 74 74 70 3a 2f 2f 77 77 77 2e 65 78 61 6d 70 6c 65 2e 63 6f 6d"
-    (tag 32 (str "http://www.example.com"))
-    "d8 20 76 68 74 74 70 3a 2f 2f 77 77 77 2e 65 78 61 6d 70 6c 65 2e 63 6f 6d" ∷ [])
+    ∷ canonical "c1 1a 51 4b 67 b0" (tag 1 (number 1363896240))
+    ∷ canonical "c1 fb 41 d4 52 d9 ec 20 00 00" (tag 1 (float double 0x41d452d9ec200000))
+    ∷ canonical "d7 44 01 02 03 04" (tag 23 (octets "01 02 03 04"))
+    ∷ canonical "d8 18 45 64 49 45 54 46" (tag 24 (octets "64 49 45 54 46"))
+    ∷ canonical "d8 20 76 68 74 74 70 3a 2f 2f 77 77 77 2e 65 78 61 6d 70 6c 65 2e 63 6f 6d"
+    (tag 32 (str "http://www.example.com")) ∷ [])
 unfolding item_within trees_at pairs_at indefinite_trees_at indefinite_pairs_at
     parse_argument initial is_utf8 chars lib.Utf8.encode
 strings_rows = refl
 
 -- Arrays and maps (appendix A). Pairs keep their order, and equal keys are kept.
 pub sequences_rows : AllEqual
-    (reads "80" (items []) "80"
-    ∷ reads "83 01 02 03" (items (number 1 ∷ number 2 ∷ number 3 ∷ [])) "83 01 02 03"
-    ∷ reads "83 01 82 02 03 82 04 05" (items
-    (number 1 ∷ items (number 2 ∷ number 3 ∷ []) ∷ items (number 4 ∷ number 5 ∷ []) ∷ []))
-    "83 01 82 02 03 82 04 05"
-    ∷ reads "98 19 01 02 03 04 05 06 07 08 09 0a 0b 0c 0d 0e 0f 10 11 12 13 14 15 16 17 18 18 18 19"
-    (items (numbers_from 1 25))
+    (canonical "80" (items [])
+    ∷ canonical "83 01 02 03" (items (number 1 ∷ number 2 ∷ number 3 ∷ []))
+    ∷ canonical "83 01 82 02 03 82 04 05" nested
+    ∷ canonical
     "98 19 01 02 03 04 05 06 07 08 09 0a 0b 0c 0d 0e 0f 10 11 12 13 14 15 16 17 18 18 18 19"
-    ∷ reads "a0" (pairs []) "a0"
-    ∷ reads "a2 01 02 03 04" (pairs ((number 1, number 2) ∷ (number 3, number 4) ∷ []))
-    "a2 01 02 03 04"
-    ∷ reads "a2 61 61 01 61 62 82 02 03"
+    (items (numbers_from 1 25))
+    ∷ canonical "a0" (pairs [])
+    ∷ canonical "a2 01 02 03 04" (pairs ((number 1, number 2) ∷ (number 3, number 4) ∷ []))
+    ∷ canonical "a2 61 61 01 61 62 82 02 03"
     (pairs ((str "a", number 1) ∷ (str "b", items (number 2 ∷ number 3 ∷ [])) ∷ []))
-    "a2 61 61 01 61 62 82 02 03"
-    ∷ reads "82 61 61 a1 61 62 61 63" (items (str "a" ∷ pairs ((str "b", str "c") ∷ []) ∷ []))
-    "82 61 61 a1 61 62 61 63"
-    ∷ reads "a2 03 04 01 02" (pairs ((number 3, number 4) ∷ (number 1, number 2) ∷ []))
-    "a2 03 04 01 02"
-    ∷ reads "a2 01 02 01 03" (pairs ((number 1, number 2) ∷ (number 1, number 3) ∷ []))
-    "a2 01 02 01 03" ∷ [])
+    ∷ canonical "82 61 61 a1 61 62 61 63" (items (str "a" ∷ pairs ((str "b", str "c") ∷ []) ∷ []))
+    ∷ canonical "a2 03 04 01 02" (pairs ((number 3, number 4) ∷ (number 1, number 2) ∷ []))
+    ∷ canonical "a2 01 02 01 03" (pairs ((number 1, number 2) ∷ (number 1, number 3) ∷ [])) ∷ [])
 unfolding item_within trees_at pairs_at indefinite_trees_at indefinite_pairs_at
     parse_argument initial is_utf8 chars lib.Utf8.encode
 sequences_rows = refl
@@ -256,18 +246,10 @@ pub opens_rows : AllEqual
     ∷ reads "7f 61 c3 61 a9 ff" (text (hex "c3 a9")) "62 c3 a9"
     ∷ reads "7f ff" (text []) "60"
     ∷ reads "9f ff" (items []) "80"
-    ∷ reads "9f 01 82 02 03 9f 04 05 ff ff" (items
-    (number 1 ∷ items (number 2 ∷ number 3 ∷ []) ∷ items (number 4 ∷ number 5 ∷ []) ∷ []))
-    "83 01 82 02 03 82 04 05"
-    ∷ reads "9f 01 82 02 03 82 04 05 ff" (items
-    (number 1 ∷ items (number 2 ∷ number 3 ∷ []) ∷ items (number 4 ∷ number 5 ∷ []) ∷ []))
-    "83 01 82 02 03 82 04 05"
-    ∷ reads "83 01 82 02 03 9f 04 05 ff" (items
-    (number 1 ∷ items (number 2 ∷ number 3 ∷ []) ∷ items (number 4 ∷ number 5 ∷ []) ∷ []))
-    "83 01 82 02 03 82 04 05"
-    ∷ reads "83 01 9f 02 03 ff 82 04 05" (items
-    (number 1 ∷ items (number 2 ∷ number 3 ∷ []) ∷ items (number 4 ∷ number 5 ∷ []) ∷ []))
-    "83 01 82 02 03 82 04 05"
+    ∷ reads "9f 01 82 02 03 9f 04 05 ff ff" nested "83 01 82 02 03 82 04 05"
+    ∷ reads "9f 01 82 02 03 82 04 05 ff" nested "83 01 82 02 03 82 04 05"
+    ∷ reads "83 01 82 02 03 9f 04 05 ff" nested "83 01 82 02 03 82 04 05"
+    ∷ reads "83 01 9f 02 03 ff 82 04 05" nested "83 01 82 02 03 82 04 05"
     ∷ reads "bf ff" (pairs []) "a0"
     ∷ reads "bf 61 61 01 61 62 9f 02 03 ff ff"
     (pairs ((str "a", number 1) ∷ (str "b", items (number 2 ∷ number 3 ∷ [])) ∷ []))

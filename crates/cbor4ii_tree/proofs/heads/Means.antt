@@ -1,6 +1,8 @@
 -- What an initial byte says, read backwards.
 use Rattle.std.proofs.Common.{◌≡◌, ℕ, zero, suc, ◌+◌, ◌*◌, ◌/◌, ◌%◌, ◌<◌, List, ◌∷◌, ◌++◌, sym, ap}
-use Rattle.std.proofs.Common.{ap₂, ◌∙◌, arith, ltb, eqb, ltb-true, eqb-true}
+use Rattle.std.proofs.Common.{ap₂, ◌∙◌, arith, ltb, eqb, ltb-true, eqb-true, subst, ◌^◌, [], length}
+use Rattle.std.proofs.Common.{take, drop, refl, false, ltb-false, take-append-drop}
+use Rattle.std.proofs.lemmas.List.{length-take-le}
 use Rattle.cbor4ii_items.specs.Head.{Width, in_first, one, two, four, eight, HeadFits, additional}
 use Rattle.cbor4ii_items.specs.{Head.{byte_count, head, indefinite_head, IsBytes}, Initial.Sign}
 use Rattle.cbor4ii_items.specs.Initial.{unsigned, negative, sign_major, Kind, byte_string}
@@ -11,10 +13,70 @@ use Rattle.cbor4ii_items.specs.Initial.{starts_indefinite_array, starts_map, sta
 use Rattle.cbor4ii_items.specs.Initial.{starts_tag, starts_simple, starts_bits, initial}
 use Rattle.cbor4ii_items.specs.Initial.{int_by_info, string_by_info, array_by_info, map_by_info}
 use Rattle.cbor4ii_items.specs.Initial.{tag_by_info, simple_by_info, by_major}
-use Rattle.cbor4ii_items.specs.Laws.Heads.{if_cases}
-use Rattle.cbor4ii_tree.specs.{Calls.Parse.parse_argument, Calls.Rejections.Lacks}
-use Rattle.cbor4ii_tree.proofs.{heads.Inverse.{Whole, number_meets}, parts.Meets.{Meets, ok_meets}}
-use Rattle.cbor4ii_tree.proofs.parts.Meets.{map_meets}
+use Rattle.cbor4ii_items.specs.{Laws.Heads.{if_cases, onto-lt, bytes_onto}, Magnitude.number_of}
+use Rattle.cbor4ii_tree.specs.Calls.Parse.{parse_argument, prefix_at, number_of_width}
+use Rattle.cbor4ii_tree.specs.Calls.Rejections.{Lacks, Missing}
+use Rattle.cbor4ii_tree.proofs.parts.Meets.{Meets, ok_meets, map_meets, err_meets}
+use Rattle.std.specs.Int.{bytes_high_first}
+
+-- ---- what a read answer says of the bytes
+
+pub IsBytes-take : (k : ℕ) (bs : List ℕ) → IsBytes bs → IsBytes (take k bs)
+IsBytes-take (suc k) (b ∷ bs) h = (h.0, IsBytes-take k bs h.1)
+IsBytes-take _ _ h = tt
+
+pub IsBytes-drop : (k : ℕ) (bs : List ℕ) → IsBytes bs → IsBytes (drop k bs)
+IsBytes-drop zero bs h = h
+IsBytes-drop (suc k) [] h = tt
+IsBytes-drop (suc k) (b ∷ bs) h = IsBytes-drop k bs h.1
+
+-- so many bytes, and what follows them
+pub record Content (k : ℕ) (bs : List ℕ) (p : List ℕ × List ℕ) : Type 0 where
+  pub is : bs ≡ p.0 ++ p.1
+  pub long : length p.0 ≡ k
+  pub bytes : IsBytes p.0
+  pub more : IsBytes p.1
+
+content_of : (k : ℕ) (bs : List ℕ) → IsBytes bs → ltb (length bs) k ≡ false
+    → Content k bs (take k bs, drop k bs)
+content_of k bs h e = record {
+  is = sym (take-append-drop k bs);
+  long = length-take-le k bs (ltb-false (length bs) k e);
+  bytes = IsBytes-take k bs h;
+  more = IsBytes-drop k bs h;
+}
+
+pub prefix_meets : (name : List ℕ) (k : ℕ) (bs : List ℕ) → IsBytes bs
+    → Meets (Content k bs) (Missing name k bs) (prefix_at name k bs)
+prefix_meets name k bs h =
+    if_cases (Meets (Content k bs) (Missing name k bs)) (ltb (length bs) k) _ _
+    (λ e. err_meets _ (ltb-true (length bs) k e, (refl, refl)))
+    (λ e. ok_meets _ (content_of k bs h e))
+
+pub number_of_bytes : (k : ℕ) (xs : List ℕ) → length xs ≡ k → IsBytes xs
+    → (bytes_high_first k (number_of xs) ≡ xs) × (number_of xs < 256 ^ k)
+number_of_bytes k xs e h = (
+  ap (λ j. bytes_high_first j (number_of xs)) (sym e) ∙ bytes_onto xs 0 h,
+  subst (λ j. number_of xs < 256 ^ j) e (onto-lt xs h),
+)
+
+pub record Whole (k n : ℕ) (bs after : List ℕ) : Type 0 where
+  pub is : bs ≡ bytes_high_first k n ++ after
+  pub below : n < 256 ^ k
+  pub more : IsBytes after
+
+pub number_meets : (asks : ℕ → ℕ → ℕ) (name : List ℕ) (k : ℕ) (bs : List ℕ) → IsBytes bs
+    → Meets (λ p. Whole k p.0 bs p.1) (Lacks asks name k bs) (number_of_width asks name k bs)
+number_meets asks name k bs h =
+    if_cases (Meets (λ p. Whole k p.0 bs p.1) (Lacks asks name k bs)) (ltb (length bs) k) _ _
+    (λ e. err_meets _ (ltb-true (length bs) k e, (refl, refl)))
+    (λ e. let c = content_of k bs h e in
+    let n = number_of_bytes k (take k bs) c.long c.bytes in
+    ok_meets _ (record {
+      is = c.is ∙ ap (λ r. r ++ drop k bs) (sym n.0);
+      below = n.1;
+      more = c.more;
+    }))
 
 abbrev pub WidthSays : Width → ℕ → Type 0
 WidthSays in_first i = i < 24
@@ -66,8 +128,7 @@ simple_says i b e =
 int_says : (s : Sign) (i b : ℕ) (info : Info) → b ≡ 32 * sign_major s + i → InfoSays i info
     → Means b (int_by_info s info)
 int_says s i b (wide w) e h = (i, e, h)
-int_says s i b indefinite_ended e h = tt
-int_says s i b reserved e h = tt
+int_says s i b _ e h = tt
 
 string_says : (k : Kind) (i b : ℕ) (info : Info) → b ≡ 32 * kind_major k + i → InfoSays i info
     → Means b (string_by_info k info)
@@ -88,8 +149,7 @@ map_says i b reserved e h = tt
 
 tag_says : (i b : ℕ) (info : Info) → b ≡ 32 * 6 + i → InfoSays i info → Means b (tag_by_info info)
 tag_says i b (wide w) e h = (i, e, h)
-tag_says i b indefinite_ended e h = tt
-tag_says i b reserved e h = tt
+tag_says i b _ e h = tt
 
 major_says : (m i b : ℕ) → m < 8 → b ≡ 32 * m + i → Means b (by_major m i)
 major_says zero i b h e = int_says unsigned i b (info_of i) e (info_says i)

@@ -1,9 +1,8 @@
 -- What a plain program answers: something that is good, or one of these errors with a rest.
 use Rattle.std.proofs.Common.{◌≡◌, ℕ, List, Option, Some, None, Ok, Err, refl, subst}
 use Rattle.cbor4ii_items.specs.Reading.{go_on}
-use Rattle.cbor4ii_tree.specs.{Basis.Cost.Budget, Basis.InputError.InputError}
-use Rattle.cbor4ii_tree.specs.{Calls.Parse.{Answer, Parser, inside_step}}
-use Rattle.cbor4ii_tree.specs.Calls.Rejections.{RejectsAtStep}
+use Rattle.cbor4ii_tree.specs.{Basis.Cost.Budget, Basis.InputError.InputError, Calls.Parse.Answer}
+use Rattle.cbor4ii_tree.specs.{Calls.Parse.{Parser, inside_step}, Calls.Rejections.RejectsAtStep}
 
 abbrev pub Failing : Type 1
 Failing = InputError → List ℕ → Type 0

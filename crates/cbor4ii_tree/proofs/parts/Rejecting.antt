@@ -2,14 +2,11 @@
 use Rattle.std.proofs.Common.{◌≡◌, ℕ, ◌<◌, ◌⊎◌, inl, inr, List, ◌∷◌, ◌++◌, Bool, true, false, refl}
 use Rattle.cbor4ii_items.specs.{Budget.CostFits, Head.{Width, HeadFits, head}}
 use Rattle.cbor4ii_tree.specs.{Basis.Cost.{Budget, skip_cost}, Basis.Encodings.Skips}
-use Rattle.cbor4ii_tree.specs.{Basis.InputError.InputError}
-use Rattle.cbor4ii_tree.specs.{Calls.ItemRejects.OrTested}
-use Rattle.cbor4ii_tree.specs.{Calls.Rejections.{Rejection, AfterHead, AfterKey}}
-use Rattle.cbor4ii_tree.specs.Calls.Rejections.{Each, EachPair, NoBreak, RejectsInCount}
-use Rattle.cbor4ii_tree.specs.Calls.Rejections.{IndefiniteItems}
-use Rattle.cbor4ii_tree.specs.{Calls.Rejections.IndefinitePairs}
-use Rattle.cbor4ii_tree.specs.{Basis.Tree.{Tree, Trees, Pairs, Loose, count}}
-use Rattle.cbor4ii_tree.specs.Basis.Tree.{bytes, bytes_all, bytes_pairs}
+use Rattle.cbor4ii_tree.specs.{Basis.InputError.InputError, Calls.ItemRejects.OrTested}
+use Rattle.cbor4ii_tree.specs.Calls.Rejections.{Rejection, AfterHead, AfterKey, Each, EachPair}
+use Rattle.cbor4ii_tree.specs.Calls.Rejections.{NoBreak, RejectsInCount, IndefiniteItems}
+use Rattle.cbor4ii_tree.specs.{Calls.Rejections.IndefinitePairs, Basis.Tree.{Tree, Trees, Pairs}}
+use Rattle.cbor4ii_tree.specs.Basis.Tree.{Loose, count, bytes, bytes_all, bytes_pairs}
 
 pub skips_by : {input : List ℕ} {budget : Budget} {t : Tree} {rest : List ℕ} → Loose t
     → CostFits (skip_cost t) budget → input ≡ bytes t ++ rest → Skips input budget t rest

@@ -5,15 +5,13 @@ use Rattle.std.proofs.Common.{Option, Some, None, refl, sym, ap, ◌∙◌, arit
 use Rattle.std.proofs.Common.{append-nil, length-append}
 use Rattle.std.specs.Int.{bytes_high_first}
 use Rattle.cbor4ii_items.specs.{Budget.CostFits, Head.{Width, byte_count, head}}
-use Rattle.cbor4ii_tree.specs.{Basis.Cost.{Budget, step_in}}
-use Rattle.cbor4ii_tree.specs.{Basis.InputError.{InputError, eof, Len, IsEof}}
-use Rattle.cbor4ii_tree.specs.{Basis.InputError.IsDepthOverflow}
-use Rattle.cbor4ii_tree.specs.{Calls.Rejections.{Rejection, Is, Lacks}}
-use Rattle.cbor4ii_tree.specs.Calls.Rejections.{AfterHead, AtHead, RejectsAtStep, Each, EachPair}
-use Rattle.cbor4ii_tree.specs.Calls.Rejections.{RejectsInCount, NoBreak, IndefiniteItems, AfterKey}
-use Rattle.cbor4ii_tree.specs.{Calls.Rejections.IndefinitePairs}
-use Rattle.cbor4ii_tree.specs.{Basis.Tree.{Tree, Trees, no_trees, tree}}
-use Rattle.cbor4ii_tree.specs.Basis.Tree.{Pairs, no_pairs, pair, bytes, bytes_all, bytes_pairs}
+use Rattle.cbor4ii_tree.specs.{Basis.Cost.{Budget, step_in}, Basis.InputError.{InputError, eof}}
+use Rattle.cbor4ii_tree.specs.Basis.InputError.{Len, IsEof, IsDepthOverflow}
+use Rattle.cbor4ii_tree.specs.Calls.Rejections.{Rejection, Is, Lacks, AfterHead, AtHead}
+use Rattle.cbor4ii_tree.specs.Calls.Rejections.{RejectsAtStep, Each, EachPair, RejectsInCount}
+use Rattle.cbor4ii_tree.specs.Calls.Rejections.{NoBreak, IndefiniteItems, AfterKey, IndefinitePairs}
+use Rattle.cbor4ii_tree.specs.Basis.Tree.{Tree, Trees, no_trees, tree, Pairs, no_pairs, pair, bytes}
+use Rattle.cbor4ii_tree.specs.Basis.Tree.{bytes_all, bytes_pairs}
 use Rattle.cbor4ii_tree.proofs.parts.Rejecting.{headed_by, in_count, in_items, in_pairs}
 
 -- of one error, before what comes later, where fewer than k bytes are there
@@ -42,10 +40,9 @@ widens_none e (Some n) h = h
 
 pub widens_fits : (e : InputError) (b c : Budget) (n : ℕ) → Widens e b c → CostFits n b →
     CostFits n c
-widens_fits e None None n w f = tt
 widens_fits e None (Some m) n w f = absurd w
-widens_fits e (Some k) None n w f = tt
 widens_fits e (Some k) (Some m) n w f = omega arith
+widens_fits e _ None n w f = tt
 
 -- the same of the budgets that a step leaves, if it leaves any
 abbrev pub StepWidens : InputError → Option Budget → Option Budget → Type 0
@@ -58,10 +55,9 @@ step_widens e None None w = (None, refl, tt)
 step_widens e None (Some m) w = absurd w
 step_widens e (Some zero) None w = inl w
 step_widens e (Some zero) (Some zero) w = inr refl
-step_widens e (Some zero) (Some (suc m)) w = absurd (omega arith)
 step_widens e (Some (suc n)) None w = (None, refl, w)
-step_widens e (Some (suc n)) (Some zero) w = absurd (omega arith)
 step_widens e (Some (suc n)) (Some (suc m)) w = (Some m, refl, omega arith)
+step_widens e _ _ w = absurd (omega arith)
 
 abbrev pub Covers : (Tree → Type 0) → (Tree → Type 0) → Type 0
 Covers V W = (t : Tree) → V t → W t
@@ -126,11 +122,8 @@ module _ (k : ℕ) (e : InputError) (more : List ℕ) (calm : Calm e more) where
       let same : suc (length bs) ≡ suc (length (bytes_high_first (byte_count w) x.argument
       ++ x.after)) = ap length x.is in
       headed_by x.argument (x.after ++ more) x.fits (onward (b ∷ bs) (head major x.argument w)
-      x.after more x.is) (g x.argument x.after rest (omega (
-        arith,
-        same,
-        length-append (bytes_high_first (byte_count w) x.argument) x.after,
-      )) x.rejected)
+      x.after more x.is) (g x.argument x.after rest
+      (omega (arith, same, length-append {A = ℕ})) x.rejected)
 
   pub at_head_goes : (name : List ℕ) (major : ℕ) (w : Width) (b : ℕ) (s t : ℕ → Rejection)
       → ((n : ℕ) → Goes k e more (s n) (t n))

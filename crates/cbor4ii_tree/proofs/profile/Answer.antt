@@ -3,24 +3,21 @@
 use Rattle.std.proofs.Common.{◌≡◌, ℕ, suc, ◌⊎◌, inl, inr, List, [], ◌∷◌, ◌++◌, length, None, Ok}
 use Rattle.std.proofs.Common.{Err, sym, ap, ◌∙◌, subst, arith, append_assoc, append-nil}
 use Rattle.cbor4ii_items.specs.Head.{IsBytes}
-use Rattle.cbor4ii_tree.specs.{Basis.Cost.Budget}
-use Rattle.cbor4ii_tree.specs.{Basis.Encodings.{SomeAnswer, AtMostOne, IsProperPrefix}}
+use Rattle.cbor4ii_tree.specs.Basis.{Cost.Budget, Encodings.{SomeAnswer, AtMostOne, IsProperPrefix}}
 use Rattle.cbor4ii_tree.specs.Basis.InputError.{InputError, eof, Len, IsEof, IsFinal}
-use Rattle.cbor4ii_tree.specs.Basis.InputError.{IsDepthOverflow}
-use Rattle.cbor4ii_tree.specs.{Calls.ItemAt.item_at, Calls.ItemRejects.{Profile, ItemRejects}}
-use Rattle.cbor4ii_tree.specs.{Laws.Ignoring.one_encoding, Laws.ItemAgain.item_again}
+use Rattle.cbor4ii_tree.specs.Basis.{InputError.IsDepthOverflow, Tree.{Tree, bytes, Loose}}
+use Rattle.cbor4ii_tree.specs.Calls.{ItemAt.item_at, ItemRejects.{Profile, ItemRejects}}
+use Rattle.cbor4ii_tree.specs.Calls.ReadingRejects.{reading_profile}
+use Rattle.cbor4ii_tree.specs.Calls.SkippingRejects.{skipping_profile}
+use Rattle.cbor4ii_tree.specs.Laws.{Ignoring.one_encoding, ItemAgain.item_again}
 use Rattle.cbor4ii_tree.specs.Laws.Profiles.{IsLawfulProfile, skipping_lawful, reading_lawful}
-use Rattle.cbor4ii_tree.specs.{Calls.ReadingRejects.reading_profile}
-use Rattle.cbor4ii_tree.specs.{Calls.SkippingRejects.skipping_profile, Basis.Tree.{Tree, bytes}}
-use Rattle.cbor4ii_tree.specs.Basis.Tree.{Loose}
 use Rattle.cbor4ii_tree.proofs.answers.Answers.{some_answer_of, at_most_one_of}
 use Rattle.cbor4ii_tree.proofs.answers.MayReject.{final_only, may_reject, leaves_nothing}
-use Rattle.cbor4ii_tree.proofs.{parts.Meets.{Meets, met_ok, met_err}, parts.Prefixes.whole_bytes}
-use Rattle.cbor4ii_tree.proofs.{parts.Sound.Took, parts.Widen.widens_none, profile.Prefixes.Outline}
-use Rattle.cbor4ii_tree.proofs.profile.Prefixes.{Outlined, readable_outline, rejected_prefix}
-use Rattle.cbor4ii_tree.proofs.{profile.Rejections.item_rejects, profile.Sound.item_meets}
+use Rattle.cbor4ii_tree.proofs.parts.{Meets.{Meets, met_ok, met_err}, Prefixes.whole_bytes}
+use Rattle.cbor4ii_tree.proofs.parts.{Stop.Took, Widen.widens_none}
+use Rattle.cbor4ii_tree.proofs.profile.Widen.{Outline, Outlined, readable_outline, rejected_prefix}
 use Rattle.cbor4ii_tree.proofs.profile.Widen.{Widening, persists, unbounded, reading_widens}
-use Rattle.cbor4ii_tree.proofs.profile.Widen.{skipping_widens}
+use Rattle.cbor4ii_tree.proofs.profile.{Widen.skipping_widens, Sound.{item_rejects, item_meets}}
 
 pub none_left : (xs ys : List ℕ) → xs ++ ys ≡ [] → ys ≡ []
 none_left [] ys e = e

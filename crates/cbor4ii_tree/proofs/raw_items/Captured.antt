@@ -3,31 +3,31 @@ use denote.Ref.{Bor}
 use Rattle.std.proofs.Common.{◌≡◌, ◌≢◌, ℕ, ◌+◌, ◌<◌, ◌^◌, ◌≤◌, inl, inr, List, [], ◌++◌, length}
 use Rattle.std.proofs.Common.{take, drop, Option, Some, None, Result, Ok, Err, Bool, true, false}
 use Rattle.std.proofs.Common.{IsTrue, refl, sym, ap, ◌∙◌, subst, arith, IfSome, IfOk, IfErr, OnOk}
-use Rattle.std.proofs.Common.{length-append, take-append-drop, append_assoc}
+use Rattle.std.proofs.Common.{length-append, take-append-drop, append_assoc, ap₂}
 use Rattle.std.proofs.{Math.Seq.drop-append_seam, lemmas.List.{length-drop, take_all}}
 use Rattle.std.proofs.lemmas.List.{nil_from_length}
 use Rattle.std.specs.Prelude.{MatchBool, MatchOption, min}
 use Rattle.cbor4ii_rw.specs.{Long.{FillsLong, BorrowsNone}, Reader.{Shows, ReaderFails, Advances}}
 use Rattle.cbor4ii_rw.specs.{Reader.{IsPrefix, KeepsAllButBudget}, Reference.{bytes_of, IsLong}}
-use Rattle.cbor4ii_rw.specs.{View.{View, IfKnown}, declared.error.DecodeError.DecodeError}
-use Rattle.cbor4ii_rw.specs.declared.read.Reference.{Reference, TheVariants.Short}
+use Rattle.cbor4ii_rw.specs.View.{View, IfKnown, place_of, place_after, BeginsAt}
+use Rattle.cbor4ii_rw.specs.declared.error.DecodeError.{DecodeError}
+use Rattle.cbor4ii_rw.specs.declared.read.Reference.{Reference}
+use Rattle.cbor4ii_rw.specs.declared.read.Reference.TheVariants.{Short}
 use Rattle.cbor4ii_items.specs.InputError.{is_out_of_memory, input_error_of, is_read}
 use Rattle.cbor4ii_items.specs.{Laws.Contents.lends_prefix, Budget.CostFits, Decoding.IsExact}
 use Rattle.cbor4ii_items.specs.Decoding.{Sound, NoneRead, Complete, Rejects, Decodes}
 use Rattle.cbor4ii_items.specs.{Laws.Running.shows_kept, Moves.{Kept, ReaderFailed, Moves}}
 use Rattle.cbor4ii_tree.specs.{Laws.Initials.length-bytes-pos, Inner.BytesAhead.lent_view}
-use Rattle.cbor4ii_tree.specs.{Calls.Raw.ReadsRaw}
-use Rattle.cbor4ii_tree.specs.Calls.Raw.{RejectsRaw, BeginsRaw, RejectedPrefix, Unmoved, most}
-use Rattle.cbor4ii_tree.specs.Calls.Raw.{SkipsPrefix, RejectsPrefix, Captured, NotCaptured, failed}
-use Rattle.cbor4ii_tree.specs.{Calls.Raw.{not_lent, rejected, Captures, raw_format}}
-use Rattle.cbor4ii_tree.specs.{Basis.Cost.Budget}
-use Rattle.cbor4ii_tree.specs.{Basis.Cost.skip_cost, Inner.Does.Does, Basis.Encodings.Skips}
-use Rattle.cbor4ii_tree.specs.{Basis.Headline.Answered}
-use Rattle.cbor4ii_tree.specs.{Basis.Headline.Rejected, Calls.Ignored.ReadsTree}
-use Rattle.cbor4ii_tree.specs.{Basis.InputError.InputError}
-use Rattle.cbor4ii_tree.specs.Laws.{Binds.same_err, Ignoring.{one_encoding, tree_prefix}}
+use Rattle.cbor4ii_tree.specs.Calls.Raw.{ReadsRaw, RejectsRaw, BeginsRaw, RejectedPrefix, Unmoved}
+use Rattle.cbor4ii_tree.specs.Calls.Raw.{most, SkipsPrefix, RejectsPrefix, Captured, NotCaptured}
+use Rattle.cbor4ii_tree.specs.Calls.Raw.{failed, not_lent, rejected, Captures, raw_format}
+use Rattle.cbor4ii_tree.specs.{Basis.Cost.{Budget, skip_cost}, Inner.Does.Does}
+use Rattle.cbor4ii_tree.specs.{Basis.Encodings.Skips, Basis.Headline.{Answered, Rejected}}
+use Rattle.cbor4ii_tree.specs.{Calls.Ignored.ReadsTree, Basis.InputError.InputError}
+use Rattle.cbor4ii_tree.specs.{Laws.Binds.same_err, Laws.Ignoring.{one_encoding, tree_prefix}}
 use Rattle.cbor4ii_tree.specs.{Calls.Skip.skip, Inner.Skipping.{SkipsOne, RejectsSkippingOne}}
 use Rattle.cbor4ii_tree.specs.{Calls.SkippingRejects.SkippingRejects, Basis.Tree.{Tree, bytes}}
+use Rattle.cbor4ii_tree.specs.Calls.BoxedRaw.{RejectsRawUnlent}
 use Rattle.cbor4ii_tree.proofs.skipping.Answer.{not_both, skip_from_Rejects}
 use Rattle.cbor4ii_tree.proofs.skip_calls.Doing.{says}
 
@@ -108,13 +108,8 @@ tree_at : (shown xs : List ℕ) (n : ℕ) (budget : Budget) → IsPrefix most sh
 tree_at shown xs n budget prefix i =
     let t = bytes i.skipped in
     let back = drop n shown ++ drop (length shown) xs in
-    let size : n ≡ length t = omega (
-      arith,
-      ap length i.skips.begins,
-      length-append t (drop n shown),
-      length-drop n shown,
-      i.within,
-    ) in
+    let size : n ≡ length t =
+    omega (arith, ap length i.skips.begins, length-append {A = ℕ}, length-drop {A = ℕ}) in
     let all : xs ≡ t ++ back = sym (take-append-drop (length shown) xs)
     ∙ (ap (λ z. z ++ drop (length shown) xs) (prefix.begins ∙ i.skips.begins)
     ∙ append_assoc t (drop n shown) (drop (length shown) xs)) in
@@ -211,12 +206,10 @@ module _ {V E : Type 0} (content : V → List ℕ) (a b : View) where
       let i = c.item in
       omega (
         arith,
-        c.less,
         ap length i.skips.begins,
-        length-append (bytes i.skipped) (drop c.count c.shown),
-        length-drop c.count c.shown,
-        i.within,
-        length-bytes-pos i.skipped,
+        length-append {A = ℕ},
+        length-drop {A = ℕ},
+        length-bytes-pos,
       )
   raw_progress (Err e) c = tt
 
@@ -392,3 +385,55 @@ lends_short a b answer lent shown e f shows prefix long some =
       };
       short = λ whole. absurd (subst IsLong f (long whole));
     }
+
+-- ---- what is said of an item that is to be kept, where the reader lends nothing
+
+-- no item stands in no bytes
+pub no_item : {budget : Budget} {shown lent : List ℕ} {n : ℕ} → lent ≡ [] → shown ≡ lent
+    → SkipsPrefix shown budget n → ⊥
+no_item {budget = budget} {n = n} none is item =
+    let i = subst (λ z. SkipsPrefix z budget n) (is ∙ none) item in
+    absurd (omega (arith, ap length i.skips.begins, length-append {A = ℕ}, length-bytes-pos))
+
+-- no byte is left
+pub none_rejects : {E : Type 0} {shown lent : List ℕ} {a m k : View} {e : DecodeError E} → lent ≡ []
+    → shown ≡ lent → FillsLong most lent a m → RejectsPrefix shown m.budget e
+    → KeepsAllButBudget m k → (is_out_of_memory e ≡ false) × Rejects RejectsRawUnlent a k e
+none_rejects {a = a} {m = m} {k = k} {e = e} none is lent rejects same =
+    let l = subst (λ z. FillsLong most z a m) none lent in
+    let s = subst (λ z. RejectsPrefix z m.budget e) (is ∙ none) rejects in (
+      s.memory,
+      record {
+        at = λ xs known. if_some (input_error_of e)
+            (λ z. (left : List ℕ) × SkippingRejects [] m.budget z left) (λ z.
+            (rest : List ℕ) × (k.known ≡ Some rest) × RejectsRawUnlent xs a.budget z rest) (λ z h. (
+              xs,
+              same.known ∙ l.shows.known xs known,
+              (
+                refl,
+                inr (
+                  (l.prefix xs known).ends (omega arith) refl,
+                  (h.0, subst (λ o. SkippingRejects [] o z h.0) l.shows.budget h.1),
+                ),
+              ),
+            )) s.rejects;
+      },
+    )
+
+-- ---- where a kept item stands
+
+-- an item has bytes, so the prefix that it was cut from had some
+pub cut_begins : {shown lent : List ℕ} {budget : Budget} {n : ℕ} {p q : ℕ × ℕ} (a : View)
+    → q ≡ p → shown ≡ lent → SkipsPrefix shown budget n → (lent ≢ [] → BeginsAt p a)
+    → BeginsAt q a
+cut_begins a same is item begins =
+    subst (λ (z : ℕ × ℕ). BeginsAt z a) (sym same) (begins (λ none. no_item none is item))
+
+-- the slice begins where its bytes, as bytes to come, begin
+pub begins_slice : (bytes : Bor (List ℕ)) (p : ℕ × ℕ) (a : View) → a.known ≡ Some bytes.now
+    → a.ends_at ≡ Some (place_after bytes) → BeginsAt p a → p ≡ place_of bytes
+begins_slice bytes p a known ends begins =
+    let same : place_after bytes ≡ (p.0, p.1 + length bytes.now) =
+    begins (place_after bytes) ends bytes.now known in
+    ap₂ (λ i j. (i, j)) (sym (ap (λ (z : ℕ × ℕ). z.0) same))
+    (omega (arith, ap (λ (z : ℕ × ℕ). z.1) same))

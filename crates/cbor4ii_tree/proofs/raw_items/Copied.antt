@@ -5,17 +5,15 @@ use Rattle.cbor4ii_rw.specs.{View.{View, IfKnown}, declared.error.DecodeError.De
 use Rattle.cbor4ii_items.specs.{Decoding.{IsExact, Decodes}, InputError.is_out_of_memory}
 use Rattle.cbor4ii_items.specs.Laws.Calls.{in_memory, out_of_memory}
 use Rattle.cbor4ii_tree.specs.Calls.BoxedRaw.{boxed_content, CapturesCopy, UnmovedOrLacks}
-use Rattle.cbor4ii_tree.specs.Calls.BoxedRaw.{SkippedTo}
-use Rattle.cbor4ii_tree.specs.{Calls.BoxedRaw.{CopiesItem, boxed_raw_format}}
-use Rattle.cbor4ii_tree.specs.{Basis.Cost.{Budget, skip_cost}}
-use Rattle.cbor4ii_tree.specs.{Basis.Encodings.Skips, Basis.Headline.{Answered, Rejected}}
-use Rattle.cbor4ii_tree.specs.{Basis.InputError.InputError}
-use Rattle.cbor4ii_tree.specs.{Calls.Raw.{raw_format, RejectedPrefix, SkipsPrefix}}
+use Rattle.cbor4ii_tree.specs.Calls.BoxedRaw.{SkippedTo, CopiesItem, boxed_raw_format}
+use Rattle.cbor4ii_tree.specs.{Basis.Cost.{Budget, skip_cost}, Basis.Encodings.Skips}
+use Rattle.cbor4ii_tree.specs.{Basis.Headline.{Answered, Rejected}, Basis.InputError.InputError}
+use Rattle.cbor4ii_tree.specs.Calls.Raw.{raw_format, RejectedPrefix, SkipsPrefix}
 use Rattle.cbor4ii_tree.specs.{Calls.SkippingRejects.SkippingRejects, Basis.Tree.{Tree, bytes}}
 use Rattle.cbor4ii_tree.specs.declared.boxed_raw.BoxedRawValue.{BoxedRawValue}
 use Rattle.cbor4ii_tree.proofs.raw_items.Captured.{item_at, skips_read, raw_decodes, raw_memory}
 use Rattle.cbor4ii_tree.proofs.raw_items.Captured.{raw_unmoved, raw_rejected, raw_whole, raw_exact}
-use Rattle.cbor4ii_tree.proofs.raw_items.Unlent.{no_item}
+use Rattle.cbor4ii_tree.proofs.raw_items.Captured.{no_item}
 
 -- ---- a copy of what was lent
 

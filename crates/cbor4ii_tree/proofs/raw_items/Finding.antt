@@ -5,8 +5,7 @@ use Rattle.std.specs.Prelude.{IsSomeAnd, if◌then◌else◌, option_and_then}
 use Rattle.cbor4ii_tree.specs.Calls.RawParts.{Agrees, GivesItem, GivesPair, ItemsToCome, KeepsItem}
 use Rattle.cbor4ii_tree.specs.Calls.RawParts.{PairsToCome, first_value, indexed_tree}
 use Rattle.cbor4ii_tree.specs.Basis.Tree.{Tree, Trees, no_trees, tree, Pairs, no_pairs, pair}
-use Rattle.cbor4ii_tree.specs.declared.raw.RawValue.{RawValue}
-use Rattle.cbor4ii_tree.specs.declared.raw_parts.RawItems.{RawItems}
+use Rattle.cbor4ii_tree.specs.{declared.raw.RawValue.RawValue, declared.raw_parts.RawItems.RawItems}
 use Rattle.cbor4ii_tree.specs.declared.raw_parts.RawPairs.{RawPairs}
 
 -- ---- by a key
@@ -90,12 +89,6 @@ Counts index counter initial items =
     (ts : Trees) → ItemsToCome ts initial → PlacedLater index (index - counter) ts items
 
 module _ (index place : ℕ) (ts : Trees) (new : RawItems) (answer : Option RawValue) where
-  item_ends : (more : Trees) → indexed_tree index ts ≡ indexed_tree place more
-      → GivesItem more new answer → answer ≡ None → indexed_tree index ts ≡ None
-  item_ends no_trees same g e = same
-  item_ends (tree t us) same g e =
-      absurd (subst (λ (o : Option RawValue). IsSomeAnd o (KeepsItem t)) e g.0)
-
   item_passes : (more : Trees) (after : ℕ) → place ≡ suc after
       → indexed_tree index ts ≡ indexed_tree place more → GivesItem more new answer
       → (found : RawValue) → answer ≡ Some found → PlacedLater index after ts new
@@ -119,11 +112,6 @@ module _ (index counter : ℕ) (initial old new : RawItems) (answer : Option Raw
     (p : ItemsToCome ts initial) where
   abbrev there : PlacedLater index (index - counter) ts old
   there = counts ts p
-
-  pub count_ends : answer ≡ None → Agrees KeepsItem (indexed_tree index ts) None
-  count_ends e =
-      subst (λ o. Agrees KeepsItem o None) (sym (item_ends index (index - counter) ts new answer
-      there.more there.same (gives there.more there.come) e)) refl
 
   pub count_goes_on : (found : RawValue) → answer ≡ Some found → counter < index
       → PlacedLater index (index - (counter + 1)) ts new

@@ -1,41 +1,67 @@
 -- Keys of kept items, compared by their heads.
 use Rattle.std.proofs.Common.{◌≡◌, ◌≢◌, ℕ, suc, ◌<◌, ℤ, pos, negsuc, List, [], ◌∷◌, ◌++◌, length}
 use Rattle.std.proofs.Common.{Option, Some, None, Bool, true, false, refl, sym, ap, ◌∙◌, subst}
+use Rattle.std.proofs.Common.{arith, append_assoc, length-append, take, drop, take_at, drop_at, ap₂}
+use Rattle.std.proofs.Common.{eqb, get_or, ◌≤◌, ◌-ℤ◌, ◌^◌, nat_eq, ◌+◌, ◌*◌, ◌/◌, ◌%◌}
+use Rattle.std.proofs.{lemmas.Int.{ints, to_z-of_z, to_z_pos}, lemmas.List.append-nil}
 use denote.Ref.{Bor}
-use Rattle.std.proofs.Common.{arith, append_assoc, length-append, take, drop, take_at, drop_at}
-use Rattle.std.proofs.Common.{ap₂, eqb, get_or, ◌≤◌}
-use Rattle.std.specs.Prelude.{◌==◌, ◌&&◌}
-use Rattle.std.specs.Bool.{Decides}
-use Rattle.std.specs.Cmp.{unsigned_Decides}
+use Rattle.std.specs.{Prelude.{◌==◌, ◌&&◌, IsSomeAnd}, Bool.Decides, Cmp.unsigned_Decides}
+use Rattle.std.specs.{Cmp.signed_Decides, Ordering.int_eq, Int.bytes_high_first}
 use lib.Pointwise.{pointwise}
-use mir.{Syntax.w128, Val.{SFits, of_z, to_z}}
-use Rattle.std.proofs.Common.{◌-ℤ◌, ◌^◌, nat_eq}
-use Rattle.std.proofs.lemmas.Int.{ints, to_z-of_z, to_z_pos}
-use Rattle.std.specs.Cmp.{signed_Decides}
-use Rattle.cbor4ii_items.specs.Head.{Width}
-use Rattle.cbor4ii_items.specs.Laws.Heads.{argument_below}
-use Rattle.cbor4ii_tree.specs.Calls.RawParts.{BeginsWithBreak}
-use Rattle.cbor4ii_tree.specs.Basis.Item.{text}
-use Rattle.cbor4ii_tree.specs.Calls.ItemEquality.{item_eq-Decides}
-use Rattle.cbor4ii_tree.specs.Laws.Initials.{begins}
-use Rattle.cbor4ii_tree.specs.Calls.RawParts.{IsChunkSplit, are_whole_texts}
-use Rattle.cbor4ii_tree.specs.Basis.Tree.{no_trees, tree, joined_chunks}
-use Rattle.std.proofs.lemmas.List.{append-nil}
-use Rattle.std.specs.Prelude.{IsSomeAnd}
-use Rattle.std.specs.Ordering.{int_eq}
-use Rattle.cbor4ii_items.specs.Head.{in_first, two, four, eight, head, break}
-use Rattle.cbor4ii_items.specs.Initial.{Sign, unsigned, negative, sign_major, Kind, byte_string}
-use Rattle.cbor4ii_items.specs.Initial.{text_string, kind_major, Simple, simple_false, simple_true}
-use Rattle.cbor4ii_items.specs.Initial.{simple_null, simple_undefined, Precision, half, single}
-use Rattle.cbor4ii_items.specs.Initial.{double}
-use Rattle.cbor4ii_tree.specs.Calls.ItemEquality.{text_eq}
+use mir.Syntax.{w128}
+use mir.Val.{SFits, of_z, to_z}
+use Rattle.cbor4ii_items.specs.Head.{Width, in_first, two, four, eight, head, break, additional}
+use Rattle.cbor4ii_items.specs.{Head.{byte_count, LacksArgument}, Laws.Heads.argument_below}
+use Rattle.cbor4ii_items.specs.{Laws.Heads.length-bytes_high_first, Initial.{unsigned, negative}}
+use Rattle.cbor4ii_items.specs.Initial.{sign_major, byte_string, text_string, kind_major, Simple}
+use Rattle.cbor4ii_items.specs.Initial.{simple_false, simple_true, simple_null, simple_undefined}
+use Rattle.cbor4ii_items.specs.Initial.{Precision, half, single, double}
+use Rattle.cbor4ii_tree.specs.Calls.RawParts.{BeginsWithBreak, IsChunkSplit, are_whole_texts}
 use Rattle.cbor4ii_tree.specs.Calls.RawParts.{IsHead, SplitsHeads, chunks_mean, means_integer}
-use Rattle.cbor4ii_tree.specs.Calls.RawParts.{means_text}
-use Rattle.cbor4ii_tree.specs.Basis.Tree.{Tree, int, string, chunked, array, array_indefinite}
-use Rattle.cbor4ii_tree.specs.Basis.Tree.{map_of}
-use Rattle.cbor4ii_tree.specs.Basis.Tree.{map_indefinite, tagged, simple, bits, bytes, bytes_all}
-use Rattle.cbor4ii_tree.specs.Basis.Tree.{bytes_pairs, count, pair_count, Loose, LooseAll, Trees}
-use Rattle.cbor4ii_tree.specs.declared.raw_head.Head.{Head}
+use Rattle.cbor4ii_tree.specs.{Calls.RawParts.means_text, Basis.Item.text}
+use Rattle.cbor4ii_tree.specs.{Calls.ItemEquality.{item_eq-Decides, text_eq}, Laws.Initials.begins}
+use Rattle.cbor4ii_tree.specs.{Laws.Initials.{kind_below, sign_below}, Basis.Tree.{no_trees, tree}}
+use Rattle.cbor4ii_tree.specs.Basis.Tree.{joined_chunks, Tree, int, string, chunked, array}
+use Rattle.cbor4ii_tree.specs.Basis.Tree.{array_indefinite, map_of, map_indefinite, tagged, simple}
+use Rattle.cbor4ii_tree.specs.Basis.Tree.{bits, bytes, bytes_all, bytes_pairs, count, pair_count}
+use Rattle.cbor4ii_tree.specs.{Basis.Tree.{Loose, LooseAll, Trees}, declared.raw_head.Head.Head}
+use Rattle.cbor4ii_tree.specs.Laws.Numbers.{additional-lt}
+
+-- ---- the head that begins some bytes, split off
+
+module _ (xs trailing : List ℕ) (b : ℕ) (found : Head) (is : xs ≡ b ∷ trailing)
+    (major_is : found.major ≡ b / 32) where
+  -- the parts of a first byte
+  parts : (major i : ℕ) → i < 32 → b ≡ 32 * major + i → (found.major ≡ major) × (b % 32 ≡ i)
+  parts major i lt e = (major_is ∙ omega arith, omega arith)
+
+  pub splits_none : LacksArgument (b % 32) trailing → found.argument ≡ None
+      → found.rest.now ≡ trailing → SplitsHeads xs (Some found)
+  splits_none lacks argument rest_is = record {
+    sized = λ major n w rest lt h e.
+        let first : b ≡ 32 * major + additional w n = cc in
+        let next : trailing ≡ bytes_high_first (byte_count w) n ++ rest = cc in
+        let p = parts major (additional w n) (additional-lt n w h) first in
+        absurd (lacks n (byte_count w) (record {
+          width = w;
+          fits = h;
+          says = sym p.1;
+          size = refl;
+          is = next ∙ ap (λ z. bytes_high_first (byte_count w) n ++ z)
+              (sym (rest_of n w rest next));
+        }));
+    indefinite = λ major rest lt e.
+        let first : b ≡ 32 * major + 31 = cc in
+        let next : trailing ≡ rest = cc in
+        let p = parts major 31 (omega arith) first in (p.0, argument, rest_is ∙ next);
+  }
+    where
+      rest_of : (n : ℕ) (w : Width) (rest : List ℕ)
+          → trailing ≡ bytes_high_first (byte_count w) n ++ rest
+          → drop (byte_count w) trailing ≡ rest
+      rest_of n w rest e =
+          ap (drop (byte_count w)) e ∙ drop_at (bytes_high_first (byte_count w) n) rest
+          (byte_count w) (length-bytes_high_first (byte_count w) n)
 
 -- ---- the head of a tree
 
@@ -60,17 +86,14 @@ simple_argument simple_undefined = 23
 abbrev pub tree_argument : Tree → Option ℕ
 tree_argument (int s n w) = Some n
 tree_argument (string k w content) = Some (length content)
-tree_argument (chunked k ts) = None
 tree_argument (array w ts) = Some (count ts)
-tree_argument (array_indefinite ts) = None
 tree_argument (map_of w ps) = Some (pair_count ps)
-tree_argument (map_indefinite ps) = None
 tree_argument (tagged n w t) = Some n
 tree_argument (simple s) = Some (simple_argument s)
 tree_argument (bits p n) = Some n
+tree_argument _ = None
 
 abbrev pub tree_content : Tree → List ℕ
-tree_content (int s n w) = []
 tree_content (string k w content) = content
 tree_content (chunked k ts) = bytes_all ts ++ break ∷ []
 tree_content (array w ts) = bytes_all ts
@@ -78,16 +101,7 @@ tree_content (array_indefinite ts) = bytes_all ts ++ break ∷ []
 tree_content (map_of w ps) = bytes_pairs ps
 tree_content (map_indefinite ps) = bytes_pairs ps ++ break ∷ []
 tree_content (tagged n w t) = bytes t
-tree_content (simple s) = []
-tree_content (bits p n) = []
-
-sign_below : (s : Sign) → sign_major s < 8
-sign_below unsigned = omega arith
-sign_below negative = omega arith
-
-kind_below : (k : Kind) → kind_major k < 8
-kind_below byte_string = omega arith
-kind_below text_string = omega arith
+tree_content _ = []
 
 module _ (answer : Option Head) (rest : List ℕ) where
   abbrev Begins : Tree → Type 0
@@ -106,12 +120,14 @@ module _ (answer : Option Head) (rest : List ℕ) where
   bits_begin double n l h = h.sized 7 n eight rest (omega arith) l refl
 
   tree_begins : (t : Tree) → Loose t → Begins t
-  tree_begins (int s n w) l h = h.sized (sign_major s) n w rest (sign_below s) l refl
+  tree_begins (int s n w) l h = h.sized (sign_major s) n w rest (omega (arith, sign_below s)) l refl
   tree_begins (string k w content) l h =
-      h.sized (kind_major k) (length content) w (content ++ rest) (kind_below k) l
+      h.sized (kind_major k) (length content) w (content ++ rest)
+      (omega (arith, kind_below k)) l
       (append_assoc (head (kind_major k) (length content) w) content rest)
   tree_begins (chunked k ts) l h =
-      h.indefinite (kind_major k) ((bytes_all ts ++ break ∷ []) ++ rest) (kind_below k) refl
+      h.indefinite (kind_major k) ((bytes_all ts ++ break ∷ []) ++ rest)
+      (omega (arith, kind_below k)) refl
   tree_begins (array w ts) l h =
       h.sized 4 (count ts) w (bytes_all ts ++ rest) (omega arith) l.0
       (append_assoc (head 4 (count ts) w) (bytes_all ts) rest)
@@ -166,20 +182,27 @@ whole_some t xs answer l e split none =
 
 -- ---- texts
 
+-- a text with so many bytes
+pub record IsSized (t : Tree) (n : ℕ) : Type 0 where
+  pub width : Width
+  pub content : List ℕ
+  pub is : t ≡ string text_string width content
+  pub size : n ≡ length content
+
+pub sized : (t : Tree) (n : ℕ) → tree_major t ≡ 3 → tree_argument t ≡ Some n → IsSized t n
+sized (int unsigned n w) m e a = absurd (omega arith)
+sized (string text_string w content) m e a =
+    let same : length content ≡ m = cc in
+    record { width = w; content = content; is = refl; size = sym same }
+sized (chunked k ts) m e a = cc
+sized (array_indefinite ts) m e a = cc
+sized (map_indefinite ps) m e a = cc
+sized _ m e a = absurd (omega arith)
+
 pub text_sized : (key : List ℕ) (t : Tree) (n : ℕ) → tree_major t ≡ 3 → tree_argument t ≡ Some n
     → means_text key t ≡ text_eq (tree_content t) key
-text_sized key (int unsigned n w) m e a = absurd (omega arith)
-text_sized key (int negative n w) m e a = absurd (omega arith)
-text_sized key (string byte_string w content) m e a = absurd (omega arith)
-text_sized key (string text_string w content) m e a = refl
-text_sized key (chunked k ts) m e a = cc
-text_sized key (array w ts) m e a = absurd (omega arith)
-text_sized key (array_indefinite ts) m e a = cc
-text_sized key (map_of w ps) m e a = absurd (omega arith)
-text_sized key (map_indefinite ps) m e a = cc
-text_sized key (tagged n w t) m e a = absurd (omega arith)
-text_sized key (simple s) m e a = absurd (omega arith)
-text_sized key (bits p n) m e a = absurd (omega arith)
+text_sized key t n m e =
+    subst (λ u. means_text key u ≡ text_eq (tree_content u) key) (sym (sized t n m e).is) refl
 
 -- a text in chunks
 pub record InChunks (key : List ℕ) (t : Tree) : Type 0 where
@@ -190,33 +213,23 @@ pub record InChunks (key : List ℕ) (t : Tree) : Type 0 where
 
 pub text_in_chunks : (key : List ℕ) (t : Tree) → Loose t → tree_major t ≡ 3
     → tree_argument t ≡ None → InChunks key t
-text_in_chunks key (int s n w) l e a = cc
-text_in_chunks key (string k w content) l e a = cc
 text_in_chunks key (chunked byte_string ts) l e a = absurd (omega arith)
 text_in_chunks key (chunked text_string ts) l e a =
     record { chunks = ts; loose = l; content = refl; means = refl }
-text_in_chunks key (array w ts) l e a = cc
 text_in_chunks key (array_indefinite ts) l e a = absurd (omega arith)
-text_in_chunks key (map_of w ps) l e a = cc
 text_in_chunks key (map_indefinite ps) l e a = absurd (omega arith)
-text_in_chunks key (tagged n w t) l e a = cc
-text_in_chunks key (simple s) l e a = cc
-text_in_chunks key (bits p n) l e a = cc
+text_in_chunks key _ l e a = cc
 
 pub text_other : (key : List ℕ) (t : Tree) → tree_major t ≢ 3 → means_text key t ≡ false
-text_other key (string byte_string w content) n = refl
 text_other key (string text_string w content) n = absurd (n refl)
-text_other key (chunked byte_string ts) n = refl
 text_other key (chunked text_string ts) n = absurd (n refl)
 text_other key _ n = refl
 
 -- ---- texts compared
 
 pub pointwise_is : (a b : List ℕ) → pointwise eqb a b ≡ text_eq a b
-pointwise_is [] [] = refl
-pointwise_is [] (b ∷ bs) = refl
-pointwise_is (b ∷ bs) [] = refl
 pointwise_is (b ∷ bs) (c ∷ cs) = ap (λ r. (b == c) && r) (pointwise_is bs cs)
+pointwise_is _ _ = refl
 
 text_decides : (a b : List ℕ) → Decides (text_eq a b) (a ≡ b)
 text_decides a b = let d = item_eq-Decides (text a) (text b) in (
@@ -244,38 +257,13 @@ text_fronts (b ∷ a) x y = rw ((unsigned_Decides b b).1 refl) (text_fronts a x 
 
 pub other_chunk : (t : Tree) (rest : List ℕ) (answer : Option (Bor (List ℕ) × Bor (List ℕ)))
     → answer ≡ None → tree_major t ≢ 3 → IsChunkSplit t rest answer
-other_chunk (string byte_string w content) rest answer e n = e
 other_chunk (string text_string w content) rest answer e n = absurd (n refl)
 other_chunk _ rest answer e n = e
 
 pub open_chunk : (t : Tree) (rest : List ℕ) (answer : Option (Bor (List ℕ) × Bor (List ℕ)))
     → answer ≡ None → tree_argument t ≡ None → IsChunkSplit t rest answer
-open_chunk (string byte_string w content) rest answer e n = e
 open_chunk (string text_string w content) rest answer e n = cc
 open_chunk _ rest answer e n = e
-
--- a text with so many bytes
-pub record IsSized (t : Tree) (n : ℕ) : Type 0 where
-  pub width : Width
-  pub content : List ℕ
-  pub is : t ≡ string text_string width content
-  pub size : n ≡ length content
-
-pub sized : (t : Tree) (n : ℕ) → tree_major t ≡ 3 → tree_argument t ≡ Some n → IsSized t n
-sized (int unsigned n w) m e a = absurd (omega arith)
-sized (int negative n w) m e a = absurd (omega arith)
-sized (string byte_string w content) m e a = absurd (omega arith)
-sized (string text_string w content) m e a =
-    let same : length content ≡ m = cc in
-    record { width = w; content = content; is = refl; size = sym same }
-sized (chunked k ts) m e a = cc
-sized (array w ts) m e a = absurd (omega arith)
-sized (array_indefinite ts) m e a = cc
-sized (map_of w ps) m e a = absurd (omega arith)
-sized (map_indefinite ps) m e a = cc
-sized (tagged n w t) m e a = absurd (omega arith)
-sized (simple s) m e a = absurd (omega arith)
-sized (bits p n) m e a = absurd (omega arith)
 
 pub content_fits : (t : Tree) (n : ℕ) (xs rest : List ℕ) → IsSized t n
     → xs ≡ tree_content t ++ rest → n ≤ length xs
@@ -388,7 +376,6 @@ module _ (ts : Trees) (key rest left : List ℕ) (i : ChunksLeftOf ts key rest l
       by_tree : (t : Tree) (us : Trees) → IsChunkSplit t (bytes_all us ++ break ∷ []) None
           → chunks_mean left (tree t us) ≡ false
       by_tree (string text_string w content) us h = absurd h
-      by_tree (string byte_string w content) us h = refl
       by_tree _ us h = refl
 
       at_stop : (more : Trees) → LooseAll more → rest ≡ bytes_all more ++ break ∷ []
@@ -403,10 +390,9 @@ module _ (ts : Trees) (key rest left : List ℕ) (i : ChunksLeftOf ts key rest l
 -- ---- integers
 
 bool_same : (b c : Bool) → (b ≡ true → c ≡ true) → (c ≡ true → b ≡ true) → b ≡ c
-bool_same true true p q = refl
 bool_same true false p q = sym (p refl)
 bool_same false true p q = q refl
-bool_same false false p q = refl
+bool_same _ _ p q = refl
 
 same_bits : (y z : ℤ) → SFits w128 y → SFits w128 z
     → nat_eq (of_z w128 y) (of_z w128 z) ≡ int_eq y z
@@ -436,33 +422,21 @@ pub integer_unsigned : (z : ℤ) (t : Tree) (n : ℕ) → tree_major t ≡ 0 →
     → means_integer z t ≡ int_eq (pos n) z
 integer_unsigned z (int unsigned m w) n e a =
     let same : m ≡ n = cc in ap (λ j. int_eq (pos j) z) same
-integer_unsigned z (int negative m w) n e a = absurd (omega arith)
 integer_unsigned z (string byte_string w content) n e a = absurd (omega arith)
-integer_unsigned z (string text_string w content) n e a = absurd (omega arith)
 integer_unsigned z (chunked k ts) n e a = cc
-integer_unsigned z (array w ts) n e a = absurd (omega arith)
 integer_unsigned z (array_indefinite ts) n e a = cc
-integer_unsigned z (map_of w ps) n e a = absurd (omega arith)
 integer_unsigned z (map_indefinite ps) n e a = cc
-integer_unsigned z (tagged m w t) n e a = absurd (omega arith)
-integer_unsigned z (simple s) n e a = absurd (omega arith)
-integer_unsigned z (bits p m) n e a = absurd (omega arith)
+integer_unsigned z _ n e a = absurd (omega arith)
 
 pub integer_negative : (z : ℤ) (t : Tree) (n : ℕ) → tree_major t ≡ 1 → tree_argument t ≡ Some n
     → means_integer z t ≡ int_eq (negsuc n) z
-integer_negative z (int unsigned m w) n e a = absurd (omega arith)
 integer_negative z (int negative m w) n e a =
     let same : m ≡ n = cc in ap (λ j. int_eq (negsuc j) z) same
 integer_negative z (string byte_string w content) n e a = absurd (omega arith)
-integer_negative z (string text_string w content) n e a = absurd (omega arith)
 integer_negative z (chunked k ts) n e a = cc
-integer_negative z (array w ts) n e a = absurd (omega arith)
 integer_negative z (array_indefinite ts) n e a = cc
-integer_negative z (map_of w ps) n e a = absurd (omega arith)
 integer_negative z (map_indefinite ps) n e a = cc
-integer_negative z (tagged m w t) n e a = absurd (omega arith)
-integer_negative z (simple s) n e a = absurd (omega arith)
-integer_negative z (bits p m) n e a = absurd (omega arith)
+integer_negative z _ n e a = absurd (omega arith)
 
 pub integer_other : (z : ℤ) (t : Tree) → tree_major t ≢ 0 → tree_major t ≢ 1
     → means_integer z t ≡ false
@@ -479,15 +453,10 @@ pub integer_below : (t : Tree) (n : ℕ) → Loose t → tree_major t < 2 → tr
 integer_below (int s n w) m l lt e =
     let same : n ≡ m = cc in subst (λ j. j < 2 ^ 64) same (argument_below w n l)
 integer_below (string byte_string w content) n l lt e = absurd (omega arith)
-integer_below (string text_string w content) n l lt e = absurd (omega arith)
 integer_below (chunked k ts) n l lt e = cc
-integer_below (array w ts) n l lt e = absurd (omega arith)
 integer_below (array_indefinite ts) n l lt e = cc
-integer_below (map_of w ps) n l lt e = absurd (omega arith)
 integer_below (map_indefinite ps) n l lt e = cc
-integer_below (tagged m w t) n l lt e = absurd (omega arith)
-integer_below (simple s) n l lt e = absurd (omega arith)
-integer_below (bits p m) n l lt e = absurd (omega arith)
+integer_below _ n l lt e = absurd (omega arith)
 
 pub test_false : (m n : ℕ) → m ≢ n → nat_eq m n ≡ false
 test_false m n h = not_true (nat_eq m n) (λ e. h ((unsigned_Decides m n).0 e))

@@ -2,26 +2,20 @@
 use Rattle.std.proofs.Common.{◌≡◌, ℕ, zero, suc, ◌≤◌, ℤ, List, Option, Some, None, Bool, true}
 use Rattle.std.proofs.Common.{false, refl, sym, ap, ◌∙◌, subst, arith}
 use Rattle.std.specs.Prelude.{IsSomeAnd, ◌&&◌, if◌then◌else◌, option_and_then}
-use Rattle.cbor4ii_items.specs.Initial.{byte_string, text_string, simple_false, simple_true}
-use Rattle.cbor4ii_items.specs.Initial.{simple_null, simple_undefined}
+use Rattle.cbor4ii_items.specs.Initial.{byte_string, text_string, simple_false}
 use Rattle.cbor4ii_tree.specs.Calls.Access.{as_array, as_map, find_text, find_value}
-use Rattle.cbor4ii_tree.specs.Basis.Cost.{cost, greatest_cost, greatest_pair_cost}
-use Rattle.cbor4ii_tree.specs.Basis.Encodings.{Encodes}
-use Rattle.cbor4ii_tree.specs.Basis.Item.{Item, ItemPairs, no_item_pairs, item_pair, integer, text}
-use Rattle.cbor4ii_tree.specs.Calls.ItemEquality.{item_eq, text_eq}
-use Rattle.cbor4ii_tree.specs.Basis.Meaning.{value, values, pair_values_of}
-use Rattle.cbor4ii_tree.specs.Calls.Raw.{raw_content}
+use Rattle.cbor4ii_tree.specs.Calls.{ItemEquality.{item_eq, text_eq}, Raw.raw_content}
 use Rattle.cbor4ii_tree.specs.Calls.RawParts.{Agrees, KeepsEncoding, KeepsItem, are_whole_texts}
 use Rattle.cbor4ii_tree.specs.Calls.RawParts.{array_trees, first_value, indexed_tree, indexed_value}
 use Rattle.cbor4ii_tree.specs.Calls.RawParts.{map_pairs, means_integer, means_text}
-use Rattle.cbor4ii_tree.specs.Basis.Tree.{Tree, int, string, chunked, array, array_indefinite}
-use Rattle.cbor4ii_tree.specs.Basis.Tree.{map_of}
-use Rattle.cbor4ii_tree.specs.Basis.Tree.{map_indefinite, tagged, simple, bits, Trees, no_trees}
-use Rattle.cbor4ii_tree.specs.Basis.Tree.{tree}
-use Rattle.cbor4ii_tree.specs.Basis.Tree.{Pairs, no_pairs, pair, LooseAll, LoosePairs, Plain}
-use Rattle.cbor4ii_tree.specs.Basis.Tree.{SoundStrings, SoundStringsAll, SoundStringsPairs}
-use Rattle.cbor4ii_tree.specs.Basis.Tree.{AreChunks}
-use Rattle.cbor4ii_tree.specs.Basis.Tree.{joined_chunks}
+use Rattle.cbor4ii_tree.specs.Basis.Cost.{cost, greatest_cost, greatest_pair_cost}
+use Rattle.cbor4ii_tree.specs.Basis.{Encodings.Encodes, Item.{Item, ItemPairs, no_item_pairs}}
+use Rattle.cbor4ii_tree.specs.Basis.{Item.{item_pair, integer, text}, Meaning.{value, values}}
+use Rattle.cbor4ii_tree.specs.Basis.{Meaning.pair_values_of, Tree.{Tree, int, string, chunked}}
+use Rattle.cbor4ii_tree.specs.Basis.Tree.{array, array_indefinite, map_of, map_indefinite, simple}
+use Rattle.cbor4ii_tree.specs.Basis.Tree.{Trees, no_trees, tree, Pairs, no_pairs, pair, LooseAll}
+use Rattle.cbor4ii_tree.specs.Basis.Tree.{LoosePairs, Plain, SoundStrings, SoundStringsAll}
+use Rattle.cbor4ii_tree.specs.Basis.Tree.{SoundStringsPairs, AreChunks, joined_chunks}
 use Rattle.cbor4ii_tree.specs.declared.raw.RawValue.{RawValue}
 
 -- ---- keys
@@ -34,40 +28,19 @@ chunks_are_texts (tree _ ts) a = absurd a.0
 
 text_is : (key : List ℕ) (t : Tree) → SoundStrings t
     → means_text key t ≡ item_eq (value t) (text key)
-text_is key (int s n w) p = refl
 text_is key (string byte_string w content) p = refl
-text_is key (string text_string w content) p = refl
-text_is key (chunked byte_string ts) p = refl
 text_is key (chunked text_string ts) p =
     ap (λ b. b && text_eq (joined_chunks ts) key) (chunks_are_texts ts p.0)
-text_is key (array w ts) p = refl
-text_is key (array_indefinite ts) p = refl
-text_is key (map_of w ps) p = refl
-text_is key (map_indefinite ps) p = refl
-text_is key (tagged n w t) p = refl
 text_is key (simple simple_false) p = refl
-text_is key (simple simple_true) p = refl
-text_is key (simple simple_null) p = refl
-text_is key (simple simple_undefined) p = refl
-text_is key (bits f n) p = refl
+text_is key _ p = refl
 
 integer_is : (z : ℤ) (t : Tree) → SoundStrings t
     → means_integer z t ≡ item_eq (value t) (integer z)
 integer_is z (int s n w) p = refl
 integer_is z (string byte_string w content) p = refl
-integer_is z (string text_string w content) p = refl
 integer_is z (chunked byte_string ts) p = refl
-integer_is z (chunked text_string ts) p = refl
-integer_is z (array w ts) p = refl
-integer_is z (array_indefinite ts) p = refl
-integer_is z (map_of w ps) p = refl
-integer_is z (map_indefinite ps) p = refl
-integer_is z (tagged n w t) p = refl
 integer_is z (simple simple_false) p = refl
-integer_is z (simple simple_true) p = refl
-integer_is z (simple simple_null) p = refl
-integer_is z (simple simple_undefined) p = refl
-integer_is z (bits f n) p = refl
+integer_is z _ p = refl
 
 find_same : (key : List ℕ) (ms : ItemPairs) → find_value (text key) ms ≡ find_text key ms
 find_same key no_item_pairs = refl
@@ -121,19 +94,10 @@ module _ (n : ℕ) (answer : Option RawValue) where
         → Agrees (KeepsEncoding n) (option_and_then (find_value key) (as_map (value t))) answer
     found_in (map_of w ps) p le h = found ps p.0.1 p.1 (omega arith) h
     found_in (map_indefinite ps) p le h = found ps p.0 p.1 (omega arith) h
-    found_in (int s m w) p le h = h
     found_in (string byte_string w content) p le h = h
-    found_in (string text_string w content) p le h = h
     found_in (chunked byte_string ts) p le h = h
-    found_in (chunked text_string ts) p le h = h
-    found_in (array w ts) p le h = h
-    found_in (array_indefinite ts) p le h = h
-    found_in (tagged m w t) p le h = h
     found_in (simple simple_false) p le h = h
-    found_in (simple simple_true) p le h = h
-    found_in (simple simple_null) p le h = h
-    found_in (simple simple_undefined) p le h = h
-    found_in (bits f m) p le h = h
+    found_in _ p le h = h
 
   placed : (i : ℕ) (ts : Trees) → LooseAll ts → SoundStringsAll ts → greatest_cost ts ≤ n
       → Agrees KeepsItem (indexed_tree i ts) answer
@@ -147,19 +111,10 @@ module _ (n : ℕ) (answer : Option RawValue) where
       → Agrees (KeepsEncoding n) (option_and_then (indexed_value i) (as_array (value t))) answer
   placed_in i (array w ts) p le h = placed i ts p.0.1 p.1 (omega arith) h
   placed_in i (array_indefinite ts) p le h = placed i ts p.0 p.1 (omega arith) h
-  placed_in i (int s m w) p le h = h
   placed_in i (string byte_string w content) p le h = h
-  placed_in i (string text_string w content) p le h = h
   placed_in i (chunked byte_string ts) p le h = h
-  placed_in i (chunked text_string ts) p le h = h
-  placed_in i (map_of w ps) p le h = h
-  placed_in i (map_indefinite ps) p le h = h
-  placed_in i (tagged m w t) p le h = h
   placed_in i (simple simple_false) p le h = h
-  placed_in i (simple simple_true) p le h = h
-  placed_in i (simple simple_null) p le h = h
-  placed_in i (simple simple_undefined) p le h = h
-  placed_in i (bits f m) p le h = h
+  placed_in i _ p le h = h
 
 -- ---- of an encoding
 

@@ -1,25 +1,18 @@
 -- The item that begins some bytes, split off under as many steps as there are bytes.
-use Rattle.std.proofs.Common.{◌≡◌, ℕ, ◌+◌, ◌-◌, ◌^◌, ◌<◌, ◌≤◌, ◌⊎◌, inl, inr, List, [], ◌∷◌}
-use Rattle.std.proofs.Common.{◌++◌, length, Some, Ok, Err, false, refl, sym, ap, ◌∙◌, subst}
-use Rattle.std.proofs.Common.{arith, IfSome, length-append}
-use Rattle.std.specs.Int.{bytes_high_first}
-use Rattle.cbor4ii_rw.specs.Slice.{slice_view}
-use Rattle.cbor4ii_rw.specs.declared.error.DecodeError.{DecodeError}
+use Rattle.std.proofs.Common.{◌≡◌, ℕ, ◌+◌, ◌-◌, ◌^◌, ◌<◌, ◌≤◌, ◌⊎◌, inl, inr, List, ◌++◌, length}
+use Rattle.std.proofs.Common.{Some, Ok, Err, false, refl, sym, ap, ◌∙◌, subst, arith, IfSome}
+use Rattle.std.proofs.Common.{length-append}
+use Rattle.cbor4ii_rw.specs.{Slice.slice_view, declared.error.DecodeError.DecodeError}
 use Rattle.cbor4ii_rw.specs.declared.error.DecodeError.TheVariants.{Read, OutOfMemory}
 use Rattle.cbor4ii_rw.specs.declared.slice_reader.SliceReader.{SliceReader}
-use Rattle.cbor4ii_items.specs.Budget.{CostFits}
-use Rattle.cbor4ii_items.specs.Head.{byte_count, break}
-use Rattle.cbor4ii_items.specs.InputError.{input_error_of, is_read, is_out_of_memory}
+use Rattle.cbor4ii_items.specs.{Budget.CostFits, InputError.{input_error_of, is_read}}
+use Rattle.cbor4ii_items.specs.InputError.{is_out_of_memory}
 use Rattle.cbor4ii_tree.specs.Basis.Cost.{skip_cost, greatest_skip_cost, greatest_pair_skip_cost}
-use Rattle.cbor4ii_tree.specs.Basis.Encodings.{Skips}
-use Rattle.cbor4ii_tree.specs.Calls.Raw.{Captures, NotCaptured, failed, not_lent, rejected}
-use Rattle.cbor4ii_tree.specs.Calls.Raw.{raw_content}
-use Rattle.cbor4ii_tree.specs.Basis.Tree.{Tree, int, string, chunked, array, array_indefinite}
-use Rattle.cbor4ii_tree.specs.Basis.Tree.{map_of}
-use Rattle.cbor4ii_tree.specs.Basis.Tree.{map_indefinite, tagged, simple, bits, bytes, bytes_all}
-use Rattle.cbor4ii_tree.specs.Basis.Tree.{bytes_pairs, count, pair_count, Loose, Trees, no_trees}
-use Rattle.cbor4ii_tree.specs.Basis.Tree.{tree}
-use Rattle.cbor4ii_tree.specs.Basis.Tree.{Pairs, no_pairs, pair}
+use Rattle.cbor4ii_tree.specs.{Basis.Encodings.Skips, Calls.Raw.{Captures, NotCaptured, failed}}
+use Rattle.cbor4ii_tree.specs.{Calls.Raw.{not_lent, rejected, raw_content}, Basis.Tree.Tree}
+use Rattle.cbor4ii_tree.specs.Basis.Tree.{chunked, array, array_indefinite, map_of, map_indefinite}
+use Rattle.cbor4ii_tree.specs.Basis.Tree.{tagged, bytes, bytes_all, bytes_pairs, Loose, Trees}
+use Rattle.cbor4ii_tree.specs.Basis.Tree.{no_trees, tree, Pairs, no_pairs, pair}
 use Rattle.cbor4ii_tree.specs.declared.raw.RawValue.{RawValue}
 use Rattle.cbor4ii_tree.proofs.raw_items.Captured.{raw_progress, raw_whole}
 
@@ -27,56 +20,23 @@ use Rattle.cbor4ii_tree.proofs.raw_items.Captured.{raw_progress, raw_whole}
 
 mutual
   pub steps_within : (t : Tree) → skip_cost t ≤ length (bytes t)
-  steps_within (int s n w) = omega arith
-  steps_within (string k w content) = omega arith
-  steps_within (chunked k ts) =
-      omega (arith, steps_within_all ts, length-append (bytes_all ts) (break ∷ []))
-  steps_within (array w ts) =
-      omega (
-        arith,
-        steps_within_all ts,
-        length-append (bytes_high_first (byte_count w) (count ts)) (bytes_all ts),
-      )
-  steps_within (array_indefinite ts) =
-      omega (arith, steps_within_all ts, length-append (bytes_all ts) (break ∷ []))
-  steps_within (map_of w ps) =
-      omega (
-        arith,
-        steps_within_pairs ps,
-        length-append (bytes_high_first (byte_count w) (pair_count ps)) (bytes_pairs ps),
-      )
-  steps_within (map_indefinite ps) =
-      omega (arith, steps_within_pairs ps, length-append (bytes_pairs ps) (break ∷ []))
-  steps_within (tagged n w t) =
-      omega (
-        arith,
-        steps_within t,
-        length-append (bytes_high_first (byte_count w) n) (bytes t),
-      )
-  steps_within (simple s) = omega arith
-  steps_within (bits p n) = omega arith
+  steps_within (chunked k ts) = simp length-append (omega (arith, steps_within_all ts))
+  steps_within (array w ts) = simp length-append (omega (arith, steps_within_all ts))
+  steps_within (array_indefinite ts) = simp length-append (omega (arith, steps_within_all ts))
+  steps_within (map_of w ps) = simp length-append (omega (arith, steps_within_pairs ps))
+  steps_within (map_indefinite ps) = simp length-append (omega (arith, steps_within_pairs ps))
+  steps_within (tagged n w t) = simp length-append (omega (arith, steps_within t))
+  steps_within _ = omega arith
 
   steps_within_all : (ts : Trees) → greatest_skip_cost ts ≤ length (bytes_all ts)
   steps_within_all no_trees = omega arith
   steps_within_all (tree t ts) =
-      omega (
-        arith,
-        steps_within t,
-        steps_within_all ts,
-        length-append (bytes t) (bytes_all ts),
-      )
+      simp length-append (omega (arith, steps_within t, steps_within_all ts))
 
   steps_within_pairs : (ps : Pairs) → greatest_pair_skip_cost ps ≤ length (bytes_pairs ps)
   steps_within_pairs no_pairs = omega arith
   steps_within_pairs (pair k v ps) =
-      omega (
-        arith,
-        steps_within k,
-        steps_within v,
-        steps_within_pairs ps,
-        length-append (bytes k) (bytes v ++ bytes_pairs ps),
-        length-append (bytes v) (bytes_pairs ps),
-      )
+      simp length-append (omega (arith, steps_within k, steps_within v, steps_within_pairs ps))
 
 -- ---- it is taken
 
@@ -93,13 +53,8 @@ module _ (reader after : SliceReader) (input : List ℕ) (n : ℕ)
       → Skips input (slice_view reader).budget t rest
   skips t rest l e = record {
     loose = l;
-    fits = subst (λ b. CostFits (skip_cost t) b) (sym budget) (omega (
-      arith,
-      all,
-      steps_within t,
-      ap length e,
-      length-append (bytes t) rest,
-    ));
+    fits = subst (λ b. CostFits (skip_cost t) b) (sym budget)
+        (omega (arith, steps_within t, ap length e, length-append {A = ℕ}));
     begins = e;
   }
 

@@ -1,21 +1,15 @@
 -- The parts of kept arrays and maps, one after another.
-use Rattle.std.proofs.Common.{◌≡◌, ◌≢◌, ℕ, zero, suc, List, [], ◌∷◌, ◌++◌, length}
-use Rattle.std.proofs.Common.{Option, Some, None, refl, sym, ap, ◌∙◌, subst, arith, append_assoc}
-use Rattle.std.proofs.Common.{get_or}
-use Rattle.cbor4ii_items.specs.Head.{break}
-use Rattle.cbor4ii_items.specs.Initial.{unsigned, negative, byte_string, text_string}
-use Rattle.cbor4ii_tree.specs.Calls.RawParts.{BeginsWithBreak}
-use Rattle.cbor4ii_tree.specs.Laws.Initials.{BeginsNoBreak, begins}
-use Rattle.cbor4ii_tree.specs.Calls.RawParts.{Agrees, AreToCome, GivesItem, GivesPair, IsHead}
-use Rattle.cbor4ii_tree.specs.Calls.RawParts.{IsLeftAfter, IsNextLength, IsRest, ItemsToCome}
-use Rattle.cbor4ii_tree.specs.Calls.RawParts.{PairsToCome, array_trees, map_pairs}
-use Rattle.cbor4ii_tree.specs.Basis.Tree.{Tree, int, string, chunked, array, array_indefinite}
-use Rattle.cbor4ii_tree.specs.Basis.Tree.{map_of}
-use Rattle.cbor4ii_tree.specs.Basis.Tree.{map_indefinite, tagged, simple, bits, bytes, bytes_all}
-use Rattle.cbor4ii_tree.specs.Basis.Tree.{bytes_pairs, count, pair_count, Trees, no_trees, tree}
-use Rattle.cbor4ii_tree.specs.Basis.Tree.{Pairs, no_pairs, pair}
-use Rattle.cbor4ii_tree.specs.declared.raw.RawValue.{RawValue}
-use Rattle.cbor4ii_tree.specs.declared.raw_head.Head.{Head}
+use Rattle.std.proofs.Common.{◌≡◌, ◌≢◌, ℕ, zero, suc, List, [], ◌∷◌, ◌++◌, Option, Some, None, refl}
+use Rattle.std.proofs.Common.{sym, ap, ◌∙◌, subst, arith, append_assoc, get_or}
+use Rattle.cbor4ii_items.specs.{Head.break, Initial.{unsigned, byte_string}}
+use Rattle.cbor4ii_tree.specs.Calls.RawParts.{BeginsWithBreak, Agrees, AreToCome, GivesItem}
+use Rattle.cbor4ii_tree.specs.Calls.RawParts.{GivesPair, IsHead, IsLeftAfter, IsNextLength, IsRest}
+use Rattle.cbor4ii_tree.specs.Calls.RawParts.{ItemsToCome, PairsToCome, array_trees, map_pairs}
+use Rattle.cbor4ii_tree.specs.{Laws.Initials.{BeginsNoBreak, begins}, Basis.Tree.{Tree, int}}
+use Rattle.cbor4ii_tree.specs.Basis.Tree.{string, chunked, array, array_indefinite, map_of}
+use Rattle.cbor4ii_tree.specs.Basis.Tree.{map_indefinite, bytes, bytes_all, bytes_pairs, count}
+use Rattle.cbor4ii_tree.specs.Basis.Tree.{pair_count, Trees, no_trees, tree, Pairs, no_pairs, pair}
+use Rattle.cbor4ii_tree.specs.{declared.raw.RawValue.RawValue, declared.raw_head.Head.Head}
 use Rattle.cbor4ii_tree.specs.declared.raw_parts.RawItems.{RawItems}
 use Rattle.cbor4ii_tree.specs.declared.raw_parts.RawPairs.{RawPairs}
 use Rattle.cbor4ii_tree.proofs.raw_items.Keys.{tree_argument, tree_content, tree_major}
@@ -36,16 +30,9 @@ array_opens (array w ts) h p m = sized h.argument (count ts) h.rest.now (bytes_a
 array_opens (array_indefinite ts) h p m =
     open_ended h.argument (count ts) h.rest.now (bytes_all ts) p.1 p.2
 array_opens (int unsigned n w) h p m = absurd (omega (arith, p.0))
-array_opens (int negative n w) h p m = absurd (omega (arith, p.0))
 array_opens (string byte_string w content) h p m = absurd (omega (arith, p.0))
-array_opens (string text_string w content) h p m = absurd (omega (arith, p.0))
 array_opens (chunked byte_string ts) h p m = absurd (omega (arith, p.0))
-array_opens (chunked text_string ts) h p m = absurd (omega (arith, p.0))
-array_opens (map_of w ps) h p m = absurd (omega (arith, p.0))
-array_opens (map_indefinite ps) h p m = absurd (omega (arith, p.0))
-array_opens (tagged n w t) h p m = absurd (omega (arith, p.0))
-array_opens (simple s) h p m = absurd (omega (arith, p.0))
-array_opens (bits f n) h p m = absurd (omega (arith, p.0))
+array_opens _ h p m = absurd (omega (arith, p.0))
 
 pub map_opens : (t : Tree) (h : Head) → IsHead (tree_major t) (tree_argument t) (tree_content t) h
     → h.major ≡ 5 → Agrees (λ ps parts. AreToCome parts (pair_count ps) (bytes_pairs ps))
@@ -54,16 +41,9 @@ map_opens (map_of w ps) h p m = sized h.argument (pair_count ps) h.rest.now (byt
 map_opens (map_indefinite ps) h p m =
     open_ended h.argument (pair_count ps) h.rest.now (bytes_pairs ps) p.1 p.2
 map_opens (int unsigned n w) h p m = absurd (omega (arith, p.0))
-map_opens (int negative n w) h p m = absurd (omega (arith, p.0))
 map_opens (string byte_string w content) h p m = absurd (omega (arith, p.0))
-map_opens (string text_string w content) h p m = absurd (omega (arith, p.0))
 map_opens (chunked byte_string ts) h p m = absurd (omega (arith, p.0))
-map_opens (chunked text_string ts) h p m = absurd (omega (arith, p.0))
-map_opens (array w ts) h p m = absurd (omega (arith, p.0))
-map_opens (array_indefinite ts) h p m = absurd (omega (arith, p.0))
-map_opens (tagged n w t) h p m = absurd (omega (arith, p.0))
-map_opens (simple s) h p m = absurd (omega (arith, p.0))
-map_opens (bits f n) h p m = absurd (omega (arith, p.0))
+map_opens _ h p m = absurd (omega (arith, p.0))
 
 pub no_array : (t : Tree) {B : Type 0} (R : Trees → B → Type 0) (answer : Option B)
     → answer ≡ None → tree_major t ≢ 4 → Agrees R (array_trees t) answer
@@ -103,19 +83,6 @@ module _ (left : Option ℕ) (rest : List ℕ) (answer : Option (Option ℕ))
       by_left None x r =
           let some : answer ≡ Some None = x.1 (no_break rest first (bs ++ break ∷ []) p
           (r ∙ append_assoc first bs (break ∷ []))) in cc
-
-  -- where some is left, one came
-  some_left : (o : Option ℕ) → IsRest left rest 0 [] → answer ≡ Some o → ⊥
-  some_left o r e = by_left left next r
-    where
-      by_left : (left : Option ℕ) → IsNextLength left rest answer → IsRest left rest 0 [] → ⊥
-      by_left (Some zero) x r = cc
-      by_left (Some (suc k)) x r = omega (arith, r.0)
-      by_left None x r =
-          let none : answer ≡ None = x.0 (record {
-            some = omega (arith, ap length r);
-            is = ap (λ z. get_or z 0 0) r;
-          }) in cc
 
   rest_is : (n : ℕ) (first bs : List ℕ) → IsRest left rest n (first ++ bs)
       → rest ≡ first ++ tail_of left bs

@@ -1,15 +1,12 @@
 -- Reading a value has one answer for each input and budget.
 use Rattle.std.proofs.Common.{◌≡◌, ℕ, inl, inr, List, ◌++◌, Ok, Err, refl, sym, ap, ◌∙◌}
 use Rattle.cbor4ii_items.specs.Head.{IsBytes}
-use Rattle.cbor4ii_tree.specs.{Basis.Cost.{Budget, cost}}
-use Rattle.cbor4ii_tree.specs.{Basis.Encodings.{DecodesTo, SomeAnswer, AtMostOne}}
-use Rattle.cbor4ii_tree.specs.{Basis.InputError.InputError, Basis.Item.Item}
-use Rattle.cbor4ii_tree.specs.{Laws.Binds.{answer_parts, bind_ok}}
-use Rattle.cbor4ii_tree.specs.{Laws.Binds.{bind_err, then_err, no_err}, Basis.Meaning.value}
-use Rattle.cbor4ii_tree.specs.{Calls.Read.parse_value}
-use Rattle.cbor4ii_tree.specs.{Calls.Read.read_tree}
-use Rattle.cbor4ii_tree.specs.{Calls.ReadingRejects.{Readable, ReadingRejects, reading_profile}}
-use Rattle.cbor4ii_tree.specs.Basis.Tree.{Tree, bytes}
+use Rattle.cbor4ii_tree.specs.Basis.{Cost.{Budget, cost}, Encodings.{DecodesTo, SomeAnswer}}
+use Rattle.cbor4ii_tree.specs.Basis.{Encodings.AtMostOne, InputError.InputError, Item.Item}
+use Rattle.cbor4ii_tree.specs.Basis.{Meaning.value, Tree.{Tree, bytes}}
+use Rattle.cbor4ii_tree.specs.Laws.Binds.{answer_parts, bind_ok, bind_err, then_err, no_err}
+use Rattle.cbor4ii_tree.specs.Calls.{Read.{parse_value, read_tree}, ReadingRejects.Readable}
+use Rattle.cbor4ii_tree.specs.Calls.ReadingRejects.{ReadingRejects, reading_profile}
 use Rattle.cbor4ii_tree.proofs.answers.Answers.{some_answer_of, at_most_one_of}
 use Rattle.cbor4ii_tree.proofs.profile.Answer.{Takes, at_from_takes, takes_from_at, at_from_rejects}
 use Rattle.cbor4ii_tree.proofs.profile.Answer.{rejects_from_at, reading_laws}

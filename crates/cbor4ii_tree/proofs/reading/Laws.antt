@@ -4,18 +4,16 @@ use Rattle.std.proofs.Common.{◌≡◌, ℕ, ◌<◌, ◌≤◌, ◌^◌, List,
 use Rattle.std.proofs.Common.{subst, arith}
 use Rattle.cbor4ii_items.specs.{Budget.CostFits, Head.IsBytes, Laws.SequenceParts.fits_less}
 use Rattle.cbor4ii_tree.specs.Basis.Canonical.{canonical_encoding, canonical_cost, with_bignums}
-use Rattle.cbor4ii_tree.specs.{Basis.Cost.{Budget, cost}}
-use Rattle.cbor4ii_tree.specs.{Basis.Encodings.{Encodes, DecodesTo, Skips}}
-use Rattle.cbor4ii_tree.specs.{Basis.Encodings.IsProperPrefix, Basis.InputError.{InputError, eof}}
-use Rattle.cbor4ii_tree.specs.{Basis.InputError.{depth_overflow, Len, IsFinal}}
-use Rattle.cbor4ii_tree.specs.{Basis.Item.{Item, IsItem}}
-use Rattle.cbor4ii_tree.specs.{Laws.Ignoring.one_encoding, Basis.Meaning.value}
-use Rattle.cbor4ii_tree.specs.{Calls.ReadingRejects.ReadingRejects}
-use Rattle.cbor4ii_tree.specs.{Basis.Tree.{Tree, bytes, Loose, Joins}}
-use Rattle.cbor4ii_tree.proofs.encodings.Canonical.{canonical_encodes, with_bignums-value}
-use Rattle.cbor4ii_tree.proofs.encodings.Costs.{skip_cost-le, cost-canonical_encoding}
-use Rattle.cbor4ii_tree.proofs.{encodings.Sizes.IsItem-value, parts.Rejecting.skips_by}
-use Rattle.cbor4ii_tree.proofs.{profile.Answer.reading_laws, reading.Answer.tree_of}
+use Rattle.cbor4ii_tree.specs.{Basis.Cost.{Budget, cost}, Basis.Encodings.{Encodes, DecodesTo}}
+use Rattle.cbor4ii_tree.specs.{Basis.Encodings.{Skips, IsProperPrefix}, Basis.InputError.InputError}
+use Rattle.cbor4ii_tree.specs.Basis.InputError.{eof, depth_overflow, Len, IsFinal}
+use Rattle.cbor4ii_tree.specs.{Basis.Item.{Item, IsItem}, Laws.Ignoring.one_encoding}
+use Rattle.cbor4ii_tree.specs.{Basis.Meaning.value, Calls.ReadingRejects.ReadingRejects}
+use Rattle.cbor4ii_tree.specs.Basis.Tree.{Tree, bytes, Loose, Joins}
+use Rattle.cbor4ii_tree.proofs.encodings.CanonicalShape.{canonical_encodes, with_bignums-value}
+use Rattle.cbor4ii_tree.proofs.encodings.Sizes.{skip_cost-le, cost-canonical_encoding, IsItem-value}
+use Rattle.cbor4ii_tree.proofs.{parts.Rejecting.skips_by, profile.Answer.reading_laws}
+use Rattle.cbor4ii_tree.proofs.reading.Answer.{tree_of}
 use Rattle.cbor4ii_tree.proofs.profile.Answer as items
 
 -- a proper prefix of an encoding that fits fails with Eof

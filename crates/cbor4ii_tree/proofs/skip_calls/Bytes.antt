@@ -1,16 +1,15 @@
 -- Bytes that are skipped, prefix by prefix, and the arguments of heads.
-use Rattle.std.proofs.Common.{◌≡◌, ℕ, suc, ◌+◌, ◌-◌, ◌*◌, ◌^◌, ◌<◌, ◌≤◌, List, [], ◌∷◌, ◌++◌}
-use Rattle.std.proofs.Common.{length, true, false, refl, sym, ap, ◌∙◌, subst, arith, append_assoc}
-use Rattle.std.proofs.Common.{length-append, ltb, ltb-true, ltb-false, lt-ltb, pow-suc, Bool}
+use Rattle.std.proofs.Common.{◌≡◌, ℕ, ◌+◌, ◌-◌, ◌*◌, ◌^◌, ◌<◌, ◌≤◌, List, [], ◌∷◌, ◌++◌, length}
+use Rattle.std.proofs.Common.{true, false, refl, sym, ap, ◌∙◌, subst, arith, append_assoc}
+use Rattle.std.proofs.Common.{length-append, ltb, ltb-true, ltb-false, lt-ltb, Bool}
 use Rattle.std.proofs.{lemmas.List.Sums.fold-append, Math.Nat.pow-le-pow_right}
-use Rattle.cbor4ii_rw.specs.declared.error.Len.{Len, TheVariants.{Small, Big}}
+use Rattle.cbor4ii_rw.specs.{declared.error.Len.Len, declared.error.Len.TheVariants.{Small, Big}}
 use Rattle.cbor4ii_items.specs.{Head.Width, Initial.{info_of, wide}, InputError.{InputError, eof}}
 use Rattle.cbor4ii_items.specs.InputError.{len_of}
 use Rattle.cbor4ii_tree.proofs.heads.Means.{WidthSays, InfoSays, info_says}
 use Rattle.cbor4ii_tree.proofs.parts.Prefixes.{IsBytes-append}
-use Rattle.cbor4ii_tree.specs.{Calls.Rejections.{Missing, MissingAll}}
-use Rattle.cbor4ii_tree.specs.{Inner.HeadParts.{DropsBytes, DropsSome}}
-use Rattle.cbor4ii_tree.specs.Inner.HeadParts.{TakesByte, NoByte, TakesNumber}
+use Rattle.cbor4ii_tree.specs.{Calls.Rejections.{Missing, MissingAll}, Inner.HeadParts.DropsBytes}
+use Rattle.cbor4ii_tree.specs.Inner.HeadParts.{DropsSome, TakesByte, NoByte, TakesNumber}
 
 pub len_is : (n : ℕ) (l : Len) → (n < 65536 → l ≡ Small n) → (65536 ≤ n → l ≡ Big) → l ≡ len_of n
 len_is n l s b = by_size (ltb n 65536) refl
@@ -84,12 +83,6 @@ number_cut name k i value xs ys e rest less few t h =
     omega (arith, ap length t.0.is, length-append t.0.content ys, t.0.size, ap length h.0) in
     let is : Small k ≡ len_of k = rw (lt-ltb k 65536 (omega (arith, few))) refl in
     (omega (arith, size, less), (h.1.0 ∙ ap (eof name) is, h.1.1))
-
-pub one_more : (value b i : ℕ) → value < 256 ^ i → b < 256 → value * 256 + b < 256 ^ (i + 1)
-one_more value b i h k =
-    let e : 256 ^ suc i ≡ 256 ^ i * 256 = pow-suc 256 i in
-    let s : i + 1 ≡ suc i = omega arith in
-    rw s (omega (arith, e))
 
 pub small_number : (value i : ℕ) → value < 256 ^ i → i ≤ 8 → value < 2 ^ 64
 small_number value i h le =

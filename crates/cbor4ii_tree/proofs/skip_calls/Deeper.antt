@@ -1,23 +1,20 @@
 -- Items in the last place of others: calls that go on with them under steps that are kept.
-use Rattle.std.proofs.Common.{◌≡◌, ℕ, zero, suc, ◌+◌, ◌-◌, ◌≤◌, ◌<◌, List, Result, Ok, Err}
-use Rattle.std.proofs.Common.{Some, None, true, refl, sym, ◌∙◌, subst, Bool, arith}
+use Rattle.std.proofs.Common.{◌≡◌, ℕ, zero, suc, ◌+◌, ◌-◌, ◌≤◌, ◌<◌, List, Result, Ok, Err, Some}
+use Rattle.std.proofs.Common.{None, true, refl, sym, ◌∙◌, subst, Bool, arith}
 use Rattle.cbor4ii_rw.specs.{Reader.{KeepsAllButBudget, StepsIn, step_back}, View.View}
 use Rattle.cbor4ii_rw.specs.declared.error.DecodeError.{DecodeError}
 use Rattle.cbor4ii_items.specs.Laws.UnderStep.{step_again, step_unbound}
-use Rattle.cbor4ii_tree.proofs.{skip_calls.Doing.{Reached, reached_by}}
-use Rattle.cbor4ii_tree.proofs.skip_calls.Doing.{reached_then, reached_as, does_ok, does_err}
-use Rattle.cbor4ii_tree.proofs.skip_calls.Doing.{does_around, does_between, steps_in}
-use Rattle.cbor4ii_tree.proofs.skip_calls.Doing.{still_rejected, with, keeps_alike, keeps_then}
-use Rattle.cbor4ii_tree.proofs.skip_calls.Doing.{stays_put, apart_with, apart_gains}
+use Rattle.cbor4ii_tree.proofs.skip_calls.Doing.{Reached, reached_by, reached_then, reached_as}
+use Rattle.cbor4ii_tree.proofs.skip_calls.Doing.{does_ok, does_err, does_around, does_between}
+use Rattle.cbor4ii_tree.proofs.skip_calls.Doing.{steps_in, still_rejected, with, keeps_alike}
+use Rattle.cbor4ii_tree.proofs.skip_calls.Doing.{keeps_then, stays_put, apart_with, apart_gains}
 use Rattle.cbor4ii_tree.proofs.skip_calls.Parts.{items_later, items_join, items_none, items_one}
-use Rattle.cbor4ii_tree.proofs.skip_calls.{Parts.first_stop, Runs.{some_of, steps}}
+use Rattle.cbor4ii_tree.proofs.{skip_calls.Parts.first_stop, skip_calls.Runs.{some_of, steps}}
 use Rattle.cbor4ii_tree.specs.Inner.Skipping.{RejectsSkippingItems, SkipsItems}
-use Rattle.cbor4ii_tree.specs.{Inner.Ahead.TakesHead}
-use Rattle.cbor4ii_tree.specs.Inner.Ahead.{SkipsSome, RejectsSome, RejectsSomeUnder, GoesUnder}
-use Rattle.cbor4ii_tree.specs.{Inner.Ahead.{CountsSome, CountsNone, CountsWent}}
-use Rattle.cbor4ii_tree.specs.{Basis.Cost.{Budget, step_in}}
-use Rattle.cbor4ii_tree.specs.{Inner.Deeper.{Deeper, FollowsInside, with_budget}}
-use Rattle.cbor4ii_tree.specs.{Inner.Does.{Accepting, Does, DoesApart}}
+use Rattle.cbor4ii_tree.specs.Inner.Ahead.{TakesHead, SkipsSome, RejectsSome, RejectsSomeUnder}
+use Rattle.cbor4ii_tree.specs.Inner.Ahead.{GoesUnder, CountsSome, CountsNone, CountsWent}
+use Rattle.cbor4ii_tree.specs.{Basis.Cost.{Budget, step_in}, Inner.Deeper.{Deeper, FollowsInside}}
+use Rattle.cbor4ii_tree.specs.{Inner.Deeper.with_budget, Inner.Does.{Accepting, Does, DoesApart}}
 use Rattle.cbor4ii_tree.specs.{Inner.Does.{DoesUnder, Lowers, Taking}, Calls.Rejections.Rejection}
 use Rattle.cbor4ii_tree.specs.declared.skip.items.Went.TheVariants.{Into}
 use Rattle.cbor4ii_tree.specs.declared.skip.initial.After.TheVariants as after

@@ -1,20 +1,21 @@
 -- Calls of decoders whose items nest, one after another.
-use Rattle.std.proofs.Common.{◌≡◌, ℕ, zero, suc, ◌+◌, ◌-◌, ◌≤◌, List, drop, Option, Some}
-use Rattle.std.proofs.Common.{None, Result, Ok, Err, Bool, true, false, IsTrue, refl, sym, ap, ◌∙◌}
-use Rattle.std.proofs.Common.{subst, arith, IfSome, IfOk}
-use Rattle.cbor4ii_rw.specs.{View.{IfKnown, View}, declared.error.DecodeError.DecodeError}
-use Rattle.cbor4ii_rw.specs.Reader.{KeepsAllButBudget, StepsIn, step_back}
+use Rattle.std.proofs.Common.{◌≡◌, ℕ, zero, suc, ◌+◌, ◌-◌, ◌≤◌, List, drop, Option, Some, None}
+use Rattle.std.proofs.Common.{Result, Ok, Err, Bool, true, false, IsTrue, refl, sym, ap, ◌∙◌, subst}
+use Rattle.std.proofs.Common.{arith, IfSome, IfOk, ◌≢◌, [], ◌∷◌}
+use Rattle.cbor4ii_rw.specs.{View.{IfKnown, View}, Reader.{KeepsAllButBudget, StepsIn, step_back}}
+use Rattle.cbor4ii_rw.specs.declared.error.DecodeError.{DecodeError}
 use Rattle.cbor4ii_rw.specs.declared.error.DecodeError.TheVariants.{OutOfMemory}
 use Rattle.cbor4ii_items.specs.{Budget.CostFits, Decoding.{Sound, Rejects}, InputError.InputError}
 use Rattle.cbor4ii_items.specs.InputError.{input_error_of, is_read, is_depth_overflow}
-use Rattle.cbor4ii_items.specs.{InputError.depth_overflow, Laws.Running.{kept_alike, no_failure}}
-use Rattle.cbor4ii_items.specs.Laws.Steps.{moves_then, moves_err}
-use Rattle.cbor4ii_items.specs.Laws.{Steps.{kept_then, counted_none}, UnderStep.step_again}
-use Rattle.cbor4ii_items.specs.{Laws.UnderStep.{step_unbound, moves_around, no_step}, Moves.Kept}
-use Rattle.cbor4ii_items.specs.Moves.{Moves, is_failure}
-use Rattle.cbor4ii_tree.specs.{Basis.Cost.{Budget, step_in}}
-use Rattle.cbor4ii_tree.specs.{Inner.Does.{Accepting, Does, DoesApart, DoesUnder}}
-use Rattle.cbor4ii_tree.specs.{Inner.Does.{Spares, Lowers}, Calls.Rejections.Rejection}
+use Rattle.cbor4ii_items.specs.{InputError.depth_overflow, Moves.{Kept, Moves, is_failure}}
+use Rattle.cbor4ii_items.specs.{Head.break, Strings.{ReadsBreak, RejectsBreak}}
+use Rattle.cbor4ii_items.specs.Laws.{Running.{kept_alike, no_failure}, Steps.moves_then}
+use Rattle.cbor4ii_items.specs.Laws.Steps.{moves_err, kept_then, counted_none}
+use Rattle.cbor4ii_items.specs.Laws.UnderStep.{step_again, step_unbound, moves_around, no_step}
+use Rattle.cbor4ii_tree.specs.Basis.{Cost.{Budget, step_in}, InputError.{break_name, eof, Small}}
+use Rattle.cbor4ii_tree.specs.Inner.Does.{Accepting, Does, DoesApart, DoesUnder, Spares, Lowers}
+use Rattle.cbor4ii_tree.specs.Calls.Rejections.{Rejection}
+use Rattle.cbor4ii_tree.proofs.skip_calls.Parts.{IsOther, after_break, other_byte}
 
 -- Some calls went well: what was taken is reported by P.
 pub record Reached (P : List ℕ → List ℕ → Type 0) (a m : View) : Type 0 where
@@ -376,3 +377,39 @@ pub lowered : {V E : Type 0} (a : ℕ) {r : Result V (DecodeError E)} {m b : Vie
     → Moves m b r → IfOk r (Lowers a b.bound)
 lowered a {r = Ok v} fell moves = omega (arith, fell, moves.by.bound)
 lowered a {r = Err e} fell moves = tt
+
+-- ---- the calls of skipping, one after another
+
+-- what came before, and no break after it
+abbrev pub Before : (Budget → List ℕ → List ℕ → Type 0) → Budget → List ℕ → List ℕ → Type 0
+Before P budget xs ys = P budget xs ys × (ys ≢ []) × ((bs : List ℕ) → ys ≡ break ∷ bs → ⊥)
+
+module _ (P : Budget → List ℕ → List ℕ → Type 0) {a m : View} (p : Reached (P a.budget) a m) where
+  -- a break
+  pub broke : {E : Type 0} (Q : List ℕ → List ℕ → Type 0) {v : Bool} {b : View}
+      → ((xs ys zs : List ℕ) → P a.budget xs ys → ys ≡ break ∷ zs → Q xs zs) → v ≡ true
+      → Moves {E = E} m b (Ok v) → Sound ReadsBreak m b v → Reached Q a b
+  broke Q f is moves s =
+      reached_then (P a.budget)
+      (λ xs ys. xs ≡ break ∷ ys) Q f p (reached_sound ReadsBreak (λ xs ys. xs ≡ break ∷ ys)
+      (λ xs n c _ r. after_break xs n c (subst (λ z. ReadsBreak xs z n c) is r)) moves s)
+
+  -- another byte
+  pub other : {E : Type 0} {v : Bool} {b : View} → v ≡ false → Moves {E = E} m b (Ok v)
+      → Sound ReadsBreak m b v → Reached (Before P a.budget) a b
+  other is moves s =
+      reached_then (P a.budget) IsOther _ (λ xs ys zs h o. (
+        subst (P a.budget xs) (sym o.0) h,
+        subst (λ ws. ws ≢ []) (sym o.0) o.1,
+        subst (λ ws. (bs : List ℕ) → ws ≡ break ∷ bs → ⊥) (sym o.0) o.2,
+      )) p (reached_sound ReadsBreak IsOther (λ xs n c _ r. other_byte xs n c (subst (λ z.
+      ReadsBreak xs z n c) is r)) moves s)
+
+  -- neither
+  pub at_end : {U E : Type 0} (B : Accepting U) (T : Rejection) {e : DecodeError E} {b : View}
+      → ((xs ys : List ℕ) → P a.budget xs ys → ys ≡ [] → T xs (eof break_name (Small 1)) [])
+      → Moves {V = Bool} m b (Err e) → Rejects RejectsBreak m b e → Does {V = U} B T a b (Err e)
+  at_end B T f moves s =
+      does_err (P a.budget) _ B (λ xs. RejectsBreak xs m.budget) T (λ xs ys z rest h k. subst (λ y.
+      T xs y rest) (sym k.1) (subst (T xs (eof break_name (Small 1))) (sym k.2) (f xs ys h k.0))) p
+      (does_rejects (λ xs (_ : Bool) ys. Unit {0}) RejectsBreak moves s)

@@ -9,11 +9,9 @@ use Rattle.cbor4ii_items.specs.{InputError.is_out_of_memory, Laws.Calls.{ok, no_
 use Rattle.cbor4ii_items.specs.Laws.Steps.{moves_err}
 use Rattle.cbor4ii_tree.proofs.{parts.Rejecting.skips_by, skipping.Answer.not_both}
 use Rattle.cbor4ii_tree.specs.{Calls.SkippingRejects.SkippingRejects, Basis.Tree.bytes}
-use Rattle.cbor4ii_tree.specs.{Basis.Cost.skip_cost}
-use Rattle.cbor4ii_tree.specs.{Inner.Does.Does, Calls.Ignored.{ReadsIgnored}}
-use Rattle.cbor4ii_tree.specs.{Inner.Skipping.SkipsOne}
-use Rattle.cbor4ii_tree.specs.{Inner.Skipping.RejectsSkippingOne}
-use Rattle.cbor4ii_tree.specs.{declared.ignored.IgnoredAny.IgnoredAny}
+use Rattle.cbor4ii_tree.specs.{Basis.Cost.skip_cost, Inner.Does.Does, Calls.Ignored.ReadsIgnored}
+use Rattle.cbor4ii_tree.specs.Inner.Skipping.{SkipsOne, RejectsSkippingOne}
+use Rattle.cbor4ii_tree.specs.declared.ignored.IgnoredAny.{IgnoredAny}
 
 ignored_sound : {E : Type 0} (v : IgnoredAny) {u : Unit {0}} {a b : View} → Does {E = E} (λ xs _ ys.
     SkipsOne a.budget xs ys) (RejectsSkippingOne a.budget) a b (Ok u) → Sound ReadsIgnored a b v

@@ -1,8 +1,8 @@
 -- What a head says of the item that it begins, where the item is skipped.
 use Rattle.std.proofs.Common.{◌≡◌, ℕ, ◌+◌, ◌*◌, ◌%◌, ◌<◌, ◌^◌, ◌⊎◌, inl, inr, List, [], ◌∷◌, ◌++◌}
 use Rattle.std.proofs.Common.{length, Some, None, Bool, true, false, cond, ltb, refl, sym, ap, ap₂}
-use Rattle.std.proofs.Common.{◌∙◌, subst, arith}
-use Rattle.std.proofs.{Common.{append_assoc, append-nil, lt-ltb}, lemmas.List.nil_from_length}
+use Rattle.std.proofs.Common.{◌∙◌, subst, arith, append_assoc, append-nil, lt-ltb}
+use Rattle.std.proofs.lemmas.List.{nil_from_length}
 use Rattle.cbor4ii_items.specs.Head.{Width, in_first, one, two, four, eight, byte_count, HeadFits}
 use Rattle.cbor4ii_items.specs.{Head.{head, indefinite_head, break, additional}, Initial.sign_major}
 use Rattle.cbor4ii_items.specs.Initial.{kind_major, precision_bytes, info_of, wide, Info}
@@ -15,34 +15,29 @@ use Rattle.cbor4ii_items.specs.{Initial.precision_byte, Budget.CostFits, Magnitu
 use Rattle.cbor4ii_items.specs.Laws.Answering.{fits_zero}
 use Rattle.cbor4ii_tree.specs.Basis.Tree.{Tree, no_trees, no_pairs, int, string, chunked, array}
 use Rattle.cbor4ii_tree.specs.Basis.Tree.{array_indefinite, map_of, map_indefinite, tagged, simple}
-use Rattle.cbor4ii_tree.specs.Basis.Tree.{bits}
-use Rattle.cbor4ii_tree.specs.Basis.Tree.{count, pair_count, bytes, bytes_all, bytes_pairs, Loose}
-use Rattle.cbor4ii_tree.specs.Basis.Cost.{Budget, skip_cost, greatest_skip_cost}
-use Rattle.cbor4ii_tree.specs.Basis.Cost.{greatest_pair_skip_cost}
-use Rattle.cbor4ii_tree.specs.{Basis.InputError.{InputError, tag_name, ignored_any}}
-use Rattle.cbor4ii_tree.specs.{Calls.Rejections.Missing}
-use Rattle.cbor4ii_tree.specs.Calls.Rejections.{Rejection, AtHead, RejectsAtStep}
+use Rattle.cbor4ii_tree.specs.Basis.Tree.{bits, count, pair_count, bytes, bytes_all, bytes_pairs}
+use Rattle.cbor4ii_tree.specs.Basis.{Tree.Loose, Cost.{Budget, skip_cost, greatest_skip_cost}}
+use Rattle.cbor4ii_tree.specs.Basis.{Cost.greatest_pair_skip_cost, InputError.InputError}
+use Rattle.cbor4ii_tree.specs.Basis.InputError.{tag_name, ignored_any}
+use Rattle.cbor4ii_tree.specs.Calls.Rejections.{Missing, Rejection, AtHead, RejectsAtStep}
 use Rattle.cbor4ii_tree.specs.Calls.SkippingRejects.{Skippable, SkippingRejectsBy, SkippingRejects}
-use Rattle.cbor4ii_tree.specs.{Calls.SkippingRejects.SkippingRejectsFrom}
-use Rattle.cbor4ii_tree.specs.{Inner.HeadParts.ArgumentAt}
-use Rattle.cbor4ii_tree.specs.{Inner.HeadParts.{ArgumentBy, CutBy, DropsBytes, NoByte}}
-use Rattle.cbor4ii_tree.specs.{Inner.Runs.SkipsLeaf}
-use Rattle.cbor4ii_tree.specs.Inner.Skipping.{start_of, RejectsSkippingOne, RejectsSkippingItems}
-use Rattle.cbor4ii_tree.specs.Inner.Skipping.{SkipsItems, SkipsUnder, SkipsAfter}
-use Rattle.cbor4ii_tree.specs.Inner.Skipping.{RejectsSkippingAfter}
+use Rattle.cbor4ii_tree.specs.Calls.SkippingRejects.{SkippingRejectsFrom}
+use Rattle.cbor4ii_tree.specs.Inner.HeadParts.{ArgumentAt, ArgumentBy, CutBy, DropsBytes, NoByte}
+use Rattle.cbor4ii_tree.specs.Inner.{Runs.SkipsLeaf, Skipping.{start_of, RejectsSkippingOne}}
+use Rattle.cbor4ii_tree.specs.Inner.Skipping.{RejectsSkippingItems, SkipsItems, SkipsUnder}
+use Rattle.cbor4ii_tree.specs.Inner.Skipping.{SkipsAfter, RejectsSkippingAfter}
 use Rattle.cbor4ii_tree.specs.Inner.Skipping.{RejectsSkippingUnder, HeadLeads, TakesFirst}
-use Rattle.cbor4ii_tree.specs.Inner.Skipping.{rejection_of}
-use Rattle.cbor4ii_tree.specs.Inner.Skipping.{additional_of, head_name, items_of_pairs, trailing_of}
-use Rattle.cbor4ii_tree.specs.declared.skip.initial.{Additional.TheVariants.Wide, After.After}
-use Rattle.cbor4ii_tree.specs.declared.skip.initial.After.TheVariants.{Nothing, Bytes, Items}
-use Rattle.cbor4ii_tree.specs.declared.skip.initial.After.TheVariants.{Twice, Indefinite}
-use Rattle.cbor4ii_tree.specs.declared.skip.initial.After.TheVariants.{PairsToBreak}
-use Rattle.cbor4ii_tree.specs.{declared.skip.initial.Start.Start, Laws.Binds.step_up}
-use Rattle.cbor4ii_tree.specs.Laws.Wholes.{all_skippable, all_pairs_skippable}
-use Rattle.cbor4ii_tree.proofs.{answers.Nesting.skipping_by_parts, heads.Inverse.number_of_bytes}
-use Rattle.cbor4ii_tree.proofs.heads.Means.{Means, means, HeadByte, WidthSays}
-use Rattle.cbor4ii_tree.proofs.{parts.{Sound.counted, Prefixes.paired}, skip_calls.Bytes.says_width}
-use Rattle.cbor4ii_tree.proofs.skip_calls.Parts.{only_one, first_of}
+use Rattle.cbor4ii_tree.specs.Inner.Skipping.{rejection_of, additional_of, head_name}
+use Rattle.cbor4ii_tree.specs.Inner.Skipping.{items_of_pairs, trailing_of}
+use Rattle.cbor4ii_tree.specs.declared.skip.initial.Additional.TheVariants.{Wide}
+use Rattle.cbor4ii_tree.specs.declared.skip.initial.{After.After, Start.Start}
+use Rattle.cbor4ii_tree.specs.declared.skip.initial.After.TheVariants.{Nothing, Bytes, Items, Twice}
+use Rattle.cbor4ii_tree.specs.declared.skip.initial.After.TheVariants.{Indefinite, PairsToBreak}
+use Rattle.cbor4ii_tree.specs.Laws.{Binds.step_up, Wholes.{all_skippable, all_pairs_skippable}}
+use Rattle.cbor4ii_tree.proofs.answers.Nesting.{skipping_by_parts}
+use Rattle.cbor4ii_tree.proofs.heads.Means.{number_of_bytes, Means, means, HeadByte, WidthSays}
+use Rattle.cbor4ii_tree.proofs.parts.{Stop.counted, Prefixes.paired}
+use Rattle.cbor4ii_tree.proofs.skip_calls.{Bytes.says_width, Parts.{only_one, first_of}}
 use Rattle.cbor4ii_tree.specs.declared.skip.initial.Start.TheVariants as start
 
 -- ---- where it fails
@@ -88,10 +83,7 @@ low_byte major i b e h = omega (arith, e, h)
 
 width_below : (w : Width) (i : ℕ) → WidthSays w i → i < 32
 width_below in_first i h = omega arith
-width_below one i h = omega arith
-width_below two i h = omega arith
-width_below four i h = omega arith
-width_below eight i h = omega arith
+width_below _ i h = omega arith
 
 says_at : (major : ℕ) (w : Width) (b : ℕ) → HeadByte major w b
     → WidthSays w (b % 32) × (b ≡ 32 * major + b % 32)
@@ -101,10 +93,7 @@ says_at major w b h =
 
 info_by : (w : Width) (i : ℕ) → WidthSays w i → info_of i ≡ wide w
 info_by in_first i h = rw (lt-ltb i 24 h) refl
-info_by one i h = rw h refl
-info_by two i h = rw h refl
-info_by four i h = rw h refl
-info_by eight i h = rw h refl
+info_by _ i h = rw h refl
 
 -- a row that has a width reports it of the additional information
 head_info : (major : ℕ) (w : Width) (b : ℕ) → HeadByte major w b → info_of (b % 32) ≡ wide w

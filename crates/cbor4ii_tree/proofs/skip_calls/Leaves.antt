@@ -1,27 +1,110 @@
 -- Items that hold no other, one after another.
-use Rattle.std.proofs.Common.{◌≡◌, ◌≢◌, ℕ, zero, suc, ◌+◌, ◌-◌, ◌%◌, ◌<◌, ◌≤◌, ◌&&◌, List, []}
-use Rattle.std.proofs.Common.{◌∷◌, ◌++◌, length, get_or, take, drop, refl, sym, ap, ap₂, ◌∙◌, subst}
+use Rattle.std.proofs.Common.{◌≡◌, ◌≢◌, ℕ, zero, suc, ◌+◌, ◌-◌, ◌%◌, ◌<◌, ◌≤◌, ◌&&◌, List, [], ◌∷◌}
+use Rattle.std.proofs.Common.{◌++◌, length, get_or, take, drop, refl, sym, ap, ap₂, ◌∙◌, subst}
 use Rattle.std.proofs.Common.{arith, true, false, Bool, cond, ltb, ltb-true, eqb, eqb-true}
-use Rattle.std.proofs.Common.{append-nil, inl, inr, nat_eq, drop-cons, length-drop}
-use Rattle.std.proofs.{Math.Seq.{take-add, take-length}, lemmas.Bool.cases_eq}
-use Rattle.std.proofs.lemmas.List.{length-take-le, get_or-take, get_or-drop}
-use Rattle.cbor4ii_items.specs.{Budget.CostFits, Head.IsBytes, Initial.initial}
-use Rattle.cbor4ii_items.specs.Laws.Contents.{first_bytes}
-use Rattle.cbor4ii_tree.proofs.{heads.Inverse.{IsBytes-take, IsBytes-drop}, parts.Pushed.push}
+use Rattle.std.proofs.Common.{append-nil, inl, inr, nat_eq, drop-cons, length-drop, None}
+use Rattle.std.proofs.{Common.{append_assoc, take-append-drop, length-append}, Math.Seq.take-add}
+use Rattle.std.proofs.{Math.Seq.take-length, lemmas.Bool.cases_eq, lemmas.List.length-take-le}
+use Rattle.std.proofs.lemmas.List.{get_or-take, get_or-drop}
+use Rattle.cbor4ii_items.specs.{Budget.CostFits, Head.{IsBytes, ArgumentAfter, break}}
+use Rattle.cbor4ii_items.specs.{Initial.{initial, info_of, wide}, Laws.Contents.first_bytes}
+use Rattle.cbor4ii_items.specs.Laws.Heads.{info-additional, length-bytes_high_first}
+use Rattle.cbor4ii_items.specs.Laws.Prefixes.{drop_more}
+use Rattle.cbor4ii_tree.proofs.{heads.Means.{IsBytes-take, IsBytes-drop}, parts.Pushed.push}
 use Rattle.cbor4ii_tree.proofs.parts.Pushed.{count-push, each-push, bytes-push}
 use Rattle.cbor4ii_tree.proofs.skip_calls.Leading.{bytes_leaf, content_leaf, short_argument}
-use Rattle.cbor4ii_tree.proofs.skip_calls.Leading.{empty_leaf}
-use Rattle.cbor4ii_tree.specs.{Inner.Ahead.{leaf_by, leaf_bytes, AllShort}, Basis.Cost.Budget}
-use Rattle.cbor4ii_tree.specs.{Inner.HeadParts.DropsBytes}
+use Rattle.cbor4ii_tree.proofs.skip_calls.Leading.{empty_leaf, Opens, whole, goes, opens_by}
+use Rattle.cbor4ii_tree.specs.Inner.Ahead.{leaf_by, leaf_bytes, AllShort, BeginsHead}
+use Rattle.cbor4ii_tree.specs.{Basis.Cost.Budget, Inner.HeadParts.{DropsBytes, ArgumentBy}}
 use Rattle.cbor4ii_tree.specs.{Calls.Rejections.Each, Inner.Runs.{IsItemLeaf, SkipsLeaf, IsLeafAt}}
-use Rattle.cbor4ii_tree.specs.{Inner.Runs.{BeginsRun, SkipsRun}}
-use Rattle.cbor4ii_tree.specs.{Inner.Skipping.{start_of, SkipsItems}}
-use Rattle.cbor4ii_tree.specs.{Calls.SkippingRejects.Skippable}
-use Rattle.cbor4ii_tree.specs.{Basis.Tree.{Trees, no_trees, tree, count}}
-use Rattle.cbor4ii_tree.specs.{Basis.Tree.{bytes, bytes_all}}
-use Rattle.cbor4ii_tree.specs.{declared.ahead.TheConstants.LEAF_BYTES}
-use Rattle.cbor4ii_tree.specs.declared.skip.initial.Start.{Start}
+use Rattle.cbor4ii_tree.specs.{Inner.Runs.{BeginsRun, SkipsRun}, Inner.Skipping.start_of}
+use Rattle.cbor4ii_tree.specs.Inner.Skipping.{SkipsItems, trailing_of, rejection_of, HeadLeads}
+use Rattle.cbor4ii_tree.specs.{Inner.Skipping.RejectsSkippingAfter, Calls.SkippingRejects.Skippable}
+use Rattle.cbor4ii_tree.specs.Basis.Tree.{Trees, no_trees, tree, count, bytes, bytes_all}
+use Rattle.cbor4ii_tree.specs.declared.ahead.TheConstants.{LEAF_BYTES}
+use Rattle.cbor4ii_tree.specs.{declared.skip.initial.Start.Start, Basis.InputError.InputError}
+use Rattle.cbor4ii_tree.specs.declared.skip.initial.After.{After}
+use Rattle.cbor4ii_tree.specs.declared.skip.initial.After.TheVariants.{Nothing}
+use Rattle.std.specs.Int.{bytes_high_first}
 use Rattle.cbor4ii_tree.specs.declared.skip.initial.Start.TheVariants as start
+
+-- ---- heads that stand whole in what is shown
+
+-- so many bytes after the first
+after_first : (size k : ℕ) (trailing : After) (b : ℕ) (bs : List ℕ) → size ≡ suc k → b < 256
+    → k ≤ length bs → IsBytes (take k bs) → ((inner : Budget) (ys : List ℕ) (e : InputError)
+    (rest : List ℕ) → RejectsSkippingAfter trailing inner ys e rest → b ≢ break) → ((inner : Budget)
+    (after : List ℕ) → HeadLeads inner (b ∷ (bs ++ after)) trailing (drop k bs ++ after))
+    → BeginsHead size trailing (b ∷ bs)
+after_first size k trailing b bs e small h fresh other f =
+    subst (λ j. BeginsHead j trailing (b ∷ bs)) (sym e) (record {
+      some = omega arith;
+      within = omega (arith, h);
+      bytes = (small, fresh);
+      leads = f;
+      item = λ inner after e rest s. (
+        (λ z. cc),
+        λ ws z. let same : b ≡ break = cc in
+            other inner (drop k bs ++ after) e rest s same,
+      );
+    })
+
+-- a byte that begins an item is no break
+other_byte : (b : ℕ) (s : Start) → start_of (initial b) ≡ s → rejection_of s b ≡ None → b ≢ break
+unfolding initial
+other_byte b s is none e =
+    let unsupported : start.Unsupported ≡ s = ap (λ j. start_of (initial j)) (sym e) ∙ is in
+    let some = subst (λ z. rejection_of z b ≡ None) (sym unsupported) none in cc
+
+module _ (b n k : ℕ) (bs : List ℕ) (small : b < 256) (fresh : IsBytes bs)
+    (a : ArgumentAfter (b % 32) bs n k) where
+  within : k ≤ length bs
+  within =
+      omega (arith, ap length a.is, length-append {A = ℕ}, length-bytes_high_first)
+
+  -- whatever follows
+  read : (after : List ℕ) → ArgumentBy (info_of (b % 32)) b (bs ++ after) n (drop k bs ++ after)
+  read after =
+      let info : info_of (b % 32) ≡ wide a.width =
+      sym (ap info_of a.says) ∙ info-additional n a.width a.fits in
+      subst (λ j. ArgumentBy j b (bs ++ after) n (drop k bs ++ after)) (sym info) (record {
+        fits = a.fits;
+        says = a.says;
+        is =
+            ap (λ r. r ++ after) a.is ∙ (append_assoc (bytes_high_first k n) (drop k bs) after
+            ∙ ap (λ j. bytes_high_first j n ++ (drop k bs ++ after)) a.size);
+      })
+
+  pub sees_head : (s : Start) → start_of (initial b) ≡ s → rejection_of s b ≡ None
+      → ((j : ℕ) → s ≡ start.Bytes j → ⊥) → BeginsHead (1 + k) (trailing_of s n) (b ∷ bs)
+  sees_head s is some none =
+      after_first (1 + k) k (trailing_of s n) b bs (omega arith) small within
+      (IsBytes-take k bs fresh) (λ _ _ _ _ _. other_byte b s is some) (λ inner after.
+      (goes inner b small s is some none).1 (bs ++ after) (drop k bs ++ after) n (read after))
+
+  pub sees_content : start_of (initial b) ≡ start.Content → n ≤ length bs - k
+      → BeginsHead (1 + k + n) Nothing (b ∷ bs)
+  sees_content s le =
+      let room : n ≤ length (drop k bs) = omega (arith, length-drop k bs, le) in
+      after_first (1 + k + n) (k + n) Nothing b bs (omega arith) small (omega (arith, le, within))
+      (IsBytes-take (k + n) bs fresh) (λ _ _ _ _ h. absurd h) (λ inner after. whole inner
+      (b ∷ (bs ++ after)) (drop (k + n) bs ++ after) (content_leaf b small (bs ++ after)
+      (drop k bs ++ after) (drop (k + n) bs ++ after) n s (read after) (record {
+        content = take n (drop k bs);
+        size = length-take-le n (drop k bs) room;
+        bytes = IsBytes-take n (drop k bs) (IsBytes-drop k bs fresh);
+        is =
+            ap (λ r. r ++ after) (sym (take-append-drop n (drop k bs)))
+            ∙ (append_assoc (take n (drop k bs)) (drop n (drop k bs)) after
+            ∙ ap (λ r. take n (drop k bs) ++ (r ++ after)) (drop_more n k bs));
+      })))
+
+-- a head without an argument
+pub sees_alone : (b : ℕ) (bs : List ℕ) → b < 256 → (s : Start) → start_of (initial b) ≡ s
+    → rejection_of s b ≡ None → Opens s → BeginsHead 1 (trailing_of s 0) (b ∷ bs)
+sees_alone b bs small s is some o =
+    after_first 1 0 (trailing_of s 0) b bs refl small (omega arith) tt (λ _ _ _ _ _. other_byte b s
+    is some) (λ inner after. opens_by inner b small s is o (bs ++ after))
 
 -- ---- a first byte that says how long the item is
 

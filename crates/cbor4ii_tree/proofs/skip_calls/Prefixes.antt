@@ -8,15 +8,13 @@ use Rattle.cbor4ii_rw.specs.declared.error.Len.TheVariants.{Small, Big}
 use Rattle.cbor4ii_rw.specs.declared.error.DecodeError.TheVariants.{Eof}
 use Rattle.cbor4ii_items.specs.{Head.IsBytes, InputError.{eof, len_of}, Laws.Contents.lends_prefix}
 use Rattle.cbor4ii_items.specs.Laws.Running.{shows_kept}
-use Rattle.cbor4ii_tree.specs.{Inner.BytesAhead.{Offers, FirstByteIs, Ready}}
-use Rattle.cbor4ii_tree.specs.{Inner.HeadParts.DropsSome}
-use Rattle.cbor4ii_tree.specs.{Inner.HeadParts.{TakesByte, NoByte}}
-use Rattle.cbor4ii_tree.specs.{Inner.Ahead.{Sees, TakesAhead, TakesHead}}
-use Rattle.cbor4ii_tree.specs.{Inner.Ahead.{Passes, NeverRejects}}
-use Rattle.cbor4ii_tree.specs.{declared.skip.initial.After.After}
-use Rattle.cbor4ii_tree.specs.declared.ahead.{Among.Among, Ahead.{Ahead, TheVariants.{Run, Head}}}
-use Rattle.cbor4ii_tree.specs.{declared.ahead.Ahead.TheVariants.Break, Calls.Rejections.Missing}
-use Rattle.cbor4ii_tree.specs.Inner.Does.{Does, DoesApart}
+use Rattle.cbor4ii_tree.specs.Inner.BytesAhead.{Offers, FirstByteIs, Ready}
+use Rattle.cbor4ii_tree.specs.{Inner.HeadParts.{DropsSome, TakesByte, NoByte}, Inner.Ahead.Sees}
+use Rattle.cbor4ii_tree.specs.Inner.Ahead.{TakesAhead, TakesHead, Passes, NeverRejects}
+use Rattle.cbor4ii_tree.specs.{declared.skip.initial.After.After, declared.ahead.Among.Among}
+use Rattle.cbor4ii_tree.specs.{declared.ahead.Ahead.Ahead, declared.ahead.Ahead.TheVariants.Run}
+use Rattle.cbor4ii_tree.specs.declared.ahead.Ahead.TheVariants.{Head, Break}
+use Rattle.cbor4ii_tree.specs.{Calls.Rejections.Missing, Inner.Does.{Does, DoesApart}}
 use Rattle.cbor4ii_tree.proofs.skip_calls.Doing.{Reached, does_ok, does_reject, apart_leaf}
 use Rattle.cbor4ii_tree.proofs.skip_calls.Bytes.{len_is}
 

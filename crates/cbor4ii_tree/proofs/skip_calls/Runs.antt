@@ -1,46 +1,44 @@
 -- Calls of skipping that take some items, one after another.
 use denote.Ref.{Bor}
-use Rattle.cbor4ii_tree.proofs.parts.Rejecting.{in_count}
-use Rattle.cbor4ii_tree.proofs.skip_calls.Parts.{items_join, items_later}
-use Rattle.std.proofs.Common.{◌*◌, ◌≡◌, ◌≢◌, ℕ, ◌+◌, ◌≤◌, inl, inr, List, ◌∷◌, Result, Ok, Err}
-use Rattle.std.proofs.Common.{Some, None, Bool, true, false, refl, sym, ap, ◌∙◌, subst, arith, IfOk}
-use Rattle.std.proofs.Common.{IsTrue}
-use Rattle.cbor4ii_rw.specs.{View.View, Reader.{KeepsAllButBudget, StepsIn, step_back, Advances}}
-use Rattle.cbor4ii_rw.specs.declared.error.DecodeError.{DecodeError, TheVariants.DepthOverflow}
-use Rattle.cbor4ii_items.specs.{Head.break, InputError.InputError, Laws.Answering.fits_zero}
-use Rattle.cbor4ii_items.specs.Laws.UnderStep.{no_step}
-use Rattle.cbor4ii_tree.specs.{Basis.InputError.{depth_overflow, ignored_any, break_name}}
-use Rattle.cbor4ii_tree.specs.{Basis.Cost.Budget}
-use Rattle.cbor4ii_tree.specs.{Calls.Rejections.{Rejection, NoBreak}}
-use Rattle.cbor4ii_tree.specs.{Inner.Does.{Accepting, Does, DoesUnder}}
-use Rattle.cbor4ii_tree.specs.{Inner.Does.{DoesApart, Lowers, MayStay, Taking}}
-use Rattle.cbor4ii_tree.specs.{Inner.HeadParts.TakesByte}
-use Rattle.cbor4ii_tree.specs.{Inner.HeadParts.NoByte, Inner.BytesAhead.{Offers, FirstByteIs}}
-use Rattle.cbor4ii_tree.specs.{Inner.Skipping.SkipsOne}
-use Rattle.cbor4ii_tree.specs.Inner.Skipping.{RejectsSkippingOne, SkipsItems, RejectsSkippingItems}
-use Rattle.cbor4ii_tree.specs.Inner.Skipping.{SkipsUnder, RejectsSkippingUnder, HeadLeads}
-use Rattle.cbor4ii_tree.specs.Inner.Skipping.{SkipsAfter}
-use Rattle.cbor4ii_tree.specs.{Inner.Skipping.RejectsSkippingAfter}
-use Rattle.cbor4ii_tree.specs.{Inner.Ahead.{TakesAhead, TakesHead, Passes}}
-use Rattle.cbor4ii_tree.specs.Inner.Ahead.{Allows, Awaits, CountsAmong, IsIndefinite, NotBreak}
-use Rattle.cbor4ii_tree.specs.Inner.Ahead.{SkipsSome}
-use Rattle.cbor4ii_tree.specs.Inner.Ahead.{RejectsSome, SkipsSomeUnder, RejectsSomeUnder, GoesUnder}
-use Rattle.cbor4ii_tree.specs.Inner.Ahead.{CountsSome, CountsWent, EndsOrNot, CountsNone}
-use Rattle.cbor4ii_tree.specs.Inner.Ahead.{RejectsAtEnd}
-use Rattle.cbor4ii_tree.specs.{Inner.Ahead.NeverRejects, declared.skip.initial.After.After}
-use Rattle.cbor4ii_tree.specs.declared.skip.{initial.After.TheVariants.Nothing, items.Went.Went}
-use Rattle.cbor4ii_tree.specs.declared.{skip.items.Went.TheVariants.{Past, Into}, ahead.Among.Among}
-use Rattle.cbor4ii_tree.specs.declared.ahead.{Among.TheVariants.{Items, Indefinite}, Ahead.Ahead}
-use Rattle.cbor4ii_tree.specs.declared.ahead.Ahead.TheVariants.{Run, Head, Break, Unseen}
-use Rattle.cbor4ii_tree.specs.Laws.Binds.{step_up}
+use Rattle.cbor4ii_tree.proofs.{parts.Rejecting.in_count, skip_calls.Parts.items_join}
+use Rattle.cbor4ii_tree.proofs.skip_calls.Parts.{items_later, only_one, no_break, items_one}
 use Rattle.cbor4ii_tree.proofs.skip_calls.Doing.{lowered, Reached, reached_by, reached_as}
 use Rattle.cbor4ii_tree.proofs.skip_calls.Doing.{still_rejected, refused, does_ok, does_after}
 use Rattle.cbor4ii_tree.proofs.skip_calls.Doing.{does_on, does_reject_by, does_around, does_stepped}
 use Rattle.cbor4ii_tree.proofs.skip_calls.Doing.{steps_in, with, keeps_alike, keeps_then, stays_put}
 use Rattle.cbor4ii_tree.proofs.skip_calls.Doing.{apart_with, apart_on, apart_value}
-use Rattle.cbor4ii_tree.proofs.skip_calls.{Leaves.run_items}
-use Rattle.cbor4ii_tree.proofs.skip_calls.{Prefixes.{byte_stays, byte_taken}}
-use Rattle.cbor4ii_tree.proofs.skip_calls.Parts.{only_one, no_break, items_one}
+use Rattle.cbor4ii_tree.proofs.{skip_calls.Leaves.run_items, skip_calls.Prefixes.byte_stays}
+use Rattle.cbor4ii_tree.proofs.skip_calls.Prefixes.{byte_taken}
+use Rattle.std.proofs.Common.{◌*◌, ◌≡◌, ◌≢◌, ℕ, ◌+◌, ◌≤◌, inl, inr, List, ◌∷◌, Result, Ok, Err}
+use Rattle.std.proofs.Common.{Some, None, Bool, true, false, refl, sym, ap, ◌∙◌, subst, arith, IfOk}
+use Rattle.std.proofs.Common.{IsTrue}
+use Rattle.cbor4ii_rw.specs.{View.View, Reader.{KeepsAllButBudget, StepsIn, step_back, Advances}}
+use Rattle.cbor4ii_rw.specs.declared.error.DecodeError.{DecodeError}
+use Rattle.cbor4ii_rw.specs.declared.error.DecodeError.TheVariants.{DepthOverflow}
+use Rattle.cbor4ii_items.specs.{Head.break, InputError.InputError, Laws.Answering.fits_zero}
+use Rattle.cbor4ii_items.specs.Laws.UnderStep.{no_step}
+use Rattle.cbor4ii_tree.specs.Basis.InputError.{depth_overflow, ignored_any, break_name}
+use Rattle.cbor4ii_tree.specs.{Basis.Cost.Budget, Calls.Rejections.{Rejection, NoBreak}}
+use Rattle.cbor4ii_tree.specs.Inner.Does.{Accepting, Does, DoesUnder, DoesApart, Lowers, MayStay}
+use Rattle.cbor4ii_tree.specs.{Inner.Does.Taking, Inner.HeadParts.{TakesByte, NoByte}}
+use Rattle.cbor4ii_tree.specs.{Inner.BytesAhead.{Offers, FirstByteIs}, Inner.Skipping.SkipsOne}
+use Rattle.cbor4ii_tree.specs.Inner.Skipping.{RejectsSkippingOne, SkipsItems, RejectsSkippingItems}
+use Rattle.cbor4ii_tree.specs.Inner.Skipping.{SkipsUnder, RejectsSkippingUnder, HeadLeads}
+use Rattle.cbor4ii_tree.specs.Inner.Skipping.{SkipsAfter, RejectsSkippingAfter}
+use Rattle.cbor4ii_tree.specs.Inner.Ahead.{TakesAhead, TakesHead, Passes, Allows, Awaits}
+use Rattle.cbor4ii_tree.specs.Inner.Ahead.{CountsAmong, IsIndefinite, NotBreak, SkipsSome}
+use Rattle.cbor4ii_tree.specs.Inner.Ahead.{RejectsSome, SkipsSomeUnder, RejectsSomeUnder, GoesUnder}
+use Rattle.cbor4ii_tree.specs.Inner.Ahead.{CountsSome, CountsWent, EndsOrNot, CountsNone}
+use Rattle.cbor4ii_tree.specs.Inner.Ahead.{RejectsAtEnd, NeverRejects}
+use Rattle.cbor4ii_tree.specs.declared.skip.initial.After.{After}
+use Rattle.cbor4ii_tree.specs.declared.skip.initial.After.TheVariants.{Nothing}
+use Rattle.cbor4ii_tree.specs.declared.skip.items.Went.{Went}
+use Rattle.cbor4ii_tree.specs.declared.skip.items.Went.TheVariants.{Past, Into}
+use Rattle.cbor4ii_tree.specs.{declared.ahead.Among.Among, declared.ahead.Among.TheVariants.Items}
+use Rattle.cbor4ii_tree.specs.declared.ahead.Among.TheVariants.{Indefinite}
+use Rattle.cbor4ii_tree.specs.{declared.ahead.Ahead.Ahead, declared.ahead.Ahead.TheVariants.Run}
+use Rattle.cbor4ii_tree.specs.declared.ahead.Ahead.TheVariants.{Head, Break, Unseen}
+use Rattle.cbor4ii_tree.specs.Laws.Binds.{step_up}
 use Rattle.cbor4ii_tree.specs.declared.skip.initial.After.TheVariants as left_after
 
 -- ---- counts

@@ -1,15 +1,48 @@
 -- Skipping has one answer for each input and budget, and no encoding begins another.
 use Rattle.std.proofs.Common.{◌≡◌, ℕ, List, [], ◌++◌, Ok, Err, sym, ◌∙◌, append-nil}
-use Rattle.cbor4ii_items.specs.Head.{IsBytes}
-use Rattle.cbor4ii_tree.specs.{Basis.Cost.Budget, Basis.Encodings.{Skips, SomeAnswer, AtMostOne}}
-use Rattle.cbor4ii_tree.specs.{Basis.InputError.InputError, Laws.Ignoring.one_encoding}
-use Rattle.cbor4ii_tree.specs.{Calls.Skip.skip}
-use Rattle.cbor4ii_tree.specs.{Calls.SkippingRejects.SkippingRejects}
-use Rattle.cbor4ii_tree.specs.{Basis.Tree.{Tree, bytes, Loose}}
+use Rattle.cbor4ii_items.specs.{Head.IsBytes, Budget.CostFits}
+use Rattle.cbor4ii_tree.specs.{Basis.Cost.{Budget, skip_cost}, Basis.Encodings.{Skips, SomeAnswer}}
+use Rattle.cbor4ii_tree.specs.Basis.Encodings.{AtMostOne, IsProperPrefix}
+use Rattle.cbor4ii_tree.specs.Basis.InputError.{InputError, eof, depth_overflow, Len, IsFinal}
+use Rattle.cbor4ii_tree.specs.{Laws.Ignoring.one_encoding, Calls.Skip.skip}
+use Rattle.cbor4ii_tree.specs.{Calls.SkippingRejects.SkippingRejects, Basis.Tree.{Tree, bytes}}
+use Rattle.cbor4ii_tree.specs.Basis.Tree.{Loose}
 use Rattle.cbor4ii_tree.proofs.answers.Answers.{some_answer_of, at_most_one_of}
 use Rattle.cbor4ii_tree.proofs.{parts.Rejecting.skips_by, profile.Answer.at_from_takes}
 use Rattle.cbor4ii_tree.proofs.profile.Answer.{takes_from_at, at_from_rejects, rejects_from_at}
 use Rattle.cbor4ii_tree.proofs.profile.Answer.{skipping_laws}
+use Rattle.cbor4ii_tree.proofs.profile.Answer as items
+
+-- ---- what each error of skipping says of the bytes that may still come
+
+-- a proper prefix of an item that fits fails with Eof
+pub prefix_rejects : (t : Tree) (prefix : List ℕ) (budget : Budget) → Loose t
+    → CostFits (skip_cost t) budget → IsProperPrefix prefix (bytes t) → IsBytes prefix
+    → (name : List ℕ) × (expect : Len) × SkippingRejects prefix budget (eof name expect) []
+prefix_rejects t prefix budget l f =
+    items.prefix_rejects skipping_laws t prefix budget
+    (l, f)
+
+pub eof_on_prefix : (input : List ℕ) (budget : Budget) (name : List ℕ) (expect : Len)
+    (rest : List ℕ) → IsBytes input → SkippingRejects input budget (eof name expect) rest →
+    (t : Tree) × Loose t × IsBytes (bytes t) × IsProperPrefix input (bytes t)
+eof_on_prefix input budget name expect rest h s =
+    items.eof_on_prefix skipping_laws input budget
+    (eof name expect) rest h tt s
+
+pub depth_stays : (input more : List ℕ) (budget : Budget) (name rest : List ℕ) (t : Tree)
+    (x : List ℕ) → SkippingRejects input budget (depth_overflow name) rest
+    → Skips (input ++ more) budget t x → ⊥
+depth_stays input more budget name rest t x rejects s =
+    items.stays skipping_laws input more budget t x
+    (depth_overflow name) rest (λ h. h) rejects ((s.loose, s.fits), s.begins)
+
+pub final_stays : (input more : List ℕ) (budget other : Budget) (e : InputError) (rest : List ℕ)
+    (t : Tree) (x : List ℕ) → IsFinal e → SkippingRejects input budget e rest
+    → Skips (input ++ more) other t x → ⊥
+final_stays input more budget other e rest t x h rejects s =
+    items.final_stays skipping_laws input more budget
+    other e rest t x h rejects ((s.loose, s.fits), s.begins)
 
 pub skip_from_Skips : (input : List ℕ) (budget : Budget) (t : Tree) (rest : List ℕ)
     → Skips input budget t rest → skip budget input ≡ Ok (t, rest)

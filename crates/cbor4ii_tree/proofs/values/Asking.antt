@@ -2,32 +2,35 @@
 use Rattle.std.proofs.Common.{Bool, true, false, ◌≡◌, ◌≤◌, ◌+◌, ◌++◌, ◌∷◌, ◌⊎◌, inl, inr, ℕ, List}
 use Rattle.std.proofs.Common.{[], Option, Some, None, suc, Result, Ok, IfErr, IsTrue, refl, ap, ap₂}
 use Rattle.std.proofs.Common.{◌∙◌, sym, subst, arith, length, length-append, length-drop, take}
-use Rattle.std.proofs.Common.{drop, take-append-drop}
-use Rattle.std.proofs.Math.Seq.{take-add}
+use Rattle.std.proofs.{Common.{drop, take-append-drop, Err}, Math.Seq.take-add}
 use Rattle.std.proofs.lemmas.Result.{err_from_is_err_and}
 use Rattle.std.specs.Result.{IsErrAnd}
-use Rattle.cbor4ii_rw.specs.Reader.{Advances, IsPrefix, KeepsAllButBudget}
-use Rattle.cbor4ii_rw.specs.{View.View, declared.error.DecodeError.DecodeError}
+use Rattle.cbor4ii_rw.specs.{Reader.{Advances, IsPrefix, KeepsAllButBudget}, View.View}
+use Rattle.cbor4ii_rw.specs.declared.error.DecodeError.{DecodeError}
 use Rattle.cbor4ii_items.specs.{InputError.is_out_of_memory, Laws.Prefixes.the_prefix}
 use Rattle.cbor4ii_tree.specs.Calls.Asking.{Asks, BeginsParts, BeginsString, Grows, HeadAt, InValue}
 use Rattle.cbor4ii_tree.specs.Calls.Asking.{IsRead, Values, boxed, content, grown, in_tag, inside}
-use Rattle.cbor4ii_tree.specs.Inner.Asking.{InParts, InTagged}
-use Rattle.cbor4ii_tree.specs.Basis.Cost.{Budget, step_in}
+use Rattle.cbor4ii_tree.specs.{Inner.Asking.{InParts, InTagged}, Basis.Cost.{Budget, step_in}}
 use Rattle.cbor4ii_tree.specs.Inner.Leaf.{AsksAfterNext, DoesAfterNext, ShowsFirst, WantsContent}
 use Rattle.cbor4ii_tree.specs.Inner.LeafRuns.{IsValueLeaf, PutsItemsUnder, RefusedMemory}
-use Rattle.cbor4ii_tree.specs.Inner.LeafRuns.{RunsBefore}
-use Rattle.cbor4ii_tree.specs.{Inner.LeafRuns.StandFirst, Inner.BytesAhead.Offers}
-use Rattle.cbor4ii_tree.specs.Basis.Tree.{Tree, bytes_all, no_trees}
-use Rattle.cbor4ii_tree.specs.Inner.Valuing.{ReadsItems, ReadsOneValue, ReadsUnder}
-use Rattle.cbor4ii_tree.specs.Inner.Valuing.{RejectsUnder}
-use Rattle.cbor4ii_tree.specs.Inner.Valuing.{Whole}
-use Rattle.cbor4ii_tree.specs.declared.{leaf.Next.Next, value.Value.Value}
-use Rattle.cbor4ii_tree.proofs.parts.Joined.{bytes-join, count-join, each-join, join}
-use Rattle.cbor4ii_tree.proofs.parts.Widen.{each_covers}
-use Rattle.cbor4ii_tree.proofs.skip_calls.Doing.{Reached, reached_by, reached_then}
-use Rattle.cbor4ii_tree.proofs.values.{ByHead.{begins_with, peeked_first}, Calls.whole_is}
+use Rattle.cbor4ii_tree.specs.{Inner.LeafRuns.{RunsBefore, StandFirst}, Inner.BytesAhead.Offers}
+use Rattle.cbor4ii_tree.specs.{Basis.Tree.{Tree, bytes_all, no_trees}, Inner.Valuing.ReadsItems}
+use Rattle.cbor4ii_tree.specs.Inner.Valuing.{ReadsOneValue, ReadsUnder, RejectsUnder, Whole}
+use Rattle.cbor4ii_tree.specs.{declared.leaf.Next.Next, declared.value.Value.Value}
+use Rattle.cbor4ii_tree.specs.{Inner.Does.{Accepting, Does}, Calls.Rejections.Rejection}
+use Rattle.cbor4ii_tree.proofs.parts.Pushed.{bytes-join, count-join, each-join, join}
+use Rattle.cbor4ii_tree.proofs.{parts.Widen.each_covers, skip_calls.Doing.{Reached, reached_by}}
+use Rattle.cbor4ii_tree.proofs.{skip_calls.Doing.{reached_then, Before}, values.ByHead.begins_with}
+use Rattle.cbor4ii_tree.proofs.{values.ByHead.peeked_first, values.Calls.whole_is}
 use Rattle.cbor4ii_tree.proofs.values.LeafRuns.{ReadEach, begins_after, one_item}
-use Rattle.cbor4ii_tree.proofs.{skip_calls.Calls.Before, values.Sequences.put_read}
+use Rattle.cbor4ii_tree.proofs.values.Sequences.{put_read}
+
+-- ---- the answer of a `?`
+
+-- the error that a `?` hands on
+pub passed : {V E : Type 0} {A : Accepting V} {S : Rejection} {e : DecodeError E} {a b : View}
+    (r : Result V (DecodeError E)) → IsErrAnd r (λ y. y ≡ e) → Does A S a b (Err e) → Does A S a b r
+passed r is d = let p = err_from_is_err_and r is in rw (p.1, p.2) d
 
 -- ---- errors
 

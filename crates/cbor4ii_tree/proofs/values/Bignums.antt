@@ -1,29 +1,24 @@
 -- Integers beyond 64 bits as the tags that they are written as.
 use Rattle.std.proofs.Common.{◌≡◌, ℕ, zero, suc, ◌+◌, ◌<◌, ◌≤◌, List, [], ◌∷◌, ◌++◌, length, take}
 use Rattle.std.proofs.Common.{get_or, set, ap, ap₂, ◌∙◌, arith, ◌^◌, pos, negsuc, ltb, ltb-true}
-use Rattle.std.proofs.Common.{◌≢◌, ◌⊎◌, inl, inr}
-use Rattle.std.proofs.{Common.refl, lemmas.List.{take_more, take_more_set}}
+use Rattle.std.proofs.{Common.{◌≢◌, ◌⊎◌, inl, inr, refl}, lemmas.List.{take_more, take_more_set}}
 use Rattle.cbor4ii_items.specs.{Head.shortest_width, Initial.{Sign, unsigned, negative}}
 use Rattle.cbor4ii_items.specs.Laws.Heads.{if_cases, shortest_fits}
 use Rattle.cbor4ii_tree.specs.Basis.Canonical.{with_bignums, with_bignums_all, with_bignums_pairs}
-use Rattle.cbor4ii_tree.specs.{Basis.Canonical.{magnitude, sign_tag, tagged_integer}}
-use Rattle.cbor4ii_tree.specs.{Basis.Item.{Item, null}}
-use Rattle.cbor4ii_tree.specs.Basis.Item.{boolean, integer, float, bytes_item, text, sequence}
-use Rattle.cbor4ii_tree.specs.Basis.Item.{mapping}
-use Rattle.cbor4ii_tree.specs.Basis.Item.{tag, Items, no_items, item, ItemPairs, no_item_pairs}
-use Rattle.cbor4ii_tree.specs.Basis.Item.{item_pair, size}
+use Rattle.cbor4ii_tree.specs.Basis.Canonical.{magnitude, sign_tag, tagged_integer}
+use Rattle.cbor4ii_tree.specs.Basis.Item.{Item, integer, bytes_item, sequence, mapping, tag, Items}
+use Rattle.cbor4ii_tree.specs.Basis.Item.{no_items, item, ItemPairs, no_item_pairs, item_pair, size}
 use Rattle.cbor4ii_tree.specs.{Basis.Item.{size_all, size_pairs}, Basis.Meaning.number}
-use Rattle.cbor4ii_tree.specs.{Basis.Tree.int, Basis.View.view}
-use Rattle.cbor4ii_tree.specs.{Basis.View.{items_view, pairs_view}, declared.value.Value.Value}
-use Rattle.cbor4ii_tree.proofs.encodings.Canonical.{with_bignums-value}
+use Rattle.cbor4ii_tree.specs.{Basis.Tree.int, Basis.View.{view, items_view, pairs_view}}
+use Rattle.cbor4ii_tree.specs.declared.value.Value.{Value}
+use Rattle.cbor4ii_tree.proofs.encodings.CanonicalShape.{with_bignums-value}
 
 items-push : (vs ws : List Value) (v w : Value)
     → items_view vs ≡ with_bignums_all (items_view ws) → view v ≡ with_bignums (view w)
     → items_view (vs ++ v ∷ []) ≡ with_bignums_all (items_view (ws ++ w ∷ []))
 items-push [] [] v w h e = ap (λ x. item x no_items) e
-items-push [] (x ∷ ws) v w h e = cc
-items-push (x ∷ vs) [] v w h e = cc
 items-push (x ∷ vs) (y ∷ ws) v w h e = cc (items-push vs ws v w (cc) e)
+items-push _ _ v w h e = cc
 
 pairs-push : (ms ns : List (Value × Value)) (m n : Value × Value)
     → pairs_view ms ≡ with_bignums_pairs (pairs_view ns)
@@ -100,16 +95,12 @@ tagged_integer-again s n =
 
 mutual
   pub with_bignums-again : (v : Item) → with_bignums (with_bignums v) ≡ with_bignums v
-  with_bignums-again null = refl
-  with_bignums-again (boolean b) = refl
   with_bignums-again (integer (pos n)) = tagged_integer-again unsigned n
   with_bignums-again (integer (negsuc n)) = tagged_integer-again negative n
-  with_bignums-again (float p n) = refl
-  with_bignums-again (bytes_item bs) = refl
-  with_bignums-again (text bs) = refl
   with_bignums-again (sequence vs) = ap sequence (with_bignums_all-again vs)
   with_bignums-again (mapping ms) = ap mapping (with_bignums_pairs-again ms)
   with_bignums-again (tag n v) = ap (tag n) (with_bignums-again v)
+  with_bignums-again _ = refl
 
   with_bignums_all-again : (vs : Items)
       → with_bignums_all (with_bignums_all vs) ≡ with_bignums_all vs

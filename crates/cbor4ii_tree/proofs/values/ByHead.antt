@@ -2,18 +2,42 @@
 -- and tags.
 use Rattle.std.proofs.Common.{Bool, ◌≡◌, ℕ, ◌+◌, ◌/◌, ◌<◌, ◌≤◌, List, [], ◌∷◌, ◌++◌, length, take}
 use Rattle.std.proofs.Common.{drop, take-append-drop, true, Some, IfSome, IsTrue, Result, refl, sym}
-use Rattle.std.proofs.Common.{ap, ◌∙◌, subst, arith}
-use Rattle.cbor4ii_rw.specs.Reader.{Advances, KeepsAllButBudget, StepsIn}
-use Rattle.cbor4ii_rw.specs.{View.View, declared.error.DecodeError.DecodeError}
-use Rattle.cbor4ii_items.specs.{Head.{IsBytes, head}, Laws.Contents.lends_prefix}
-use Rattle.cbor4ii_items.specs.Laws.Running.{kept_alike, shows_kept}
-use Rattle.cbor4ii_tree.specs.{Basis.Cost.Budget, Inner.Deeper.with_budget}
-use Rattle.cbor4ii_tree.specs.Calls.{Asking.HeadAt, Rejections.Rejection}
-use Rattle.cbor4ii_tree.specs.{declared.leaf.Head.Head, Inner.Does.{Accepting, Does}}
-use Rattle.cbor4ii_tree.specs.Inner.Leaf.{CanTake, HeadStands, ShowsFirst, ShowsNext}
-use Rattle.cbor4ii_tree.specs.declared.leaf.Next.{Next}
-use Rattle.cbor4ii_tree.proofs.skip_calls.Doing.{Reached, reached_as}
-use Rattle.cbor4ii_tree.proofs.values.{Calls.{Peeked, does_under}, HeadAt.head_by}
+use Rattle.std.proofs.Common.{ap, ◌∙◌, subst, arith, false}
+use Rattle.cbor4ii_rw.specs.{Reader.{Advances, KeepsAllButBudget, StepsIn}, View.View}
+use Rattle.cbor4ii_rw.specs.declared.error.DecodeError.{DecodeError}
+use Rattle.cbor4ii_items.specs.Head.{IsBytes, head, Width, HeadFits, shortest_width}
+use Rattle.cbor4ii_items.specs.{Laws.Contents.lends_prefix, Laws.Running.{kept_alike, shows_kept}}
+use Rattle.cbor4ii_items.specs.Laws.Heads.{argument_below, shortest_fits}
+use Rattle.cbor4ii_tree.specs.{Basis.Cost.Budget, Inner.Deeper.with_budget, Calls.Asking.HeadAt}
+use Rattle.cbor4ii_tree.specs.{Calls.Rejections.Rejection, declared.leaf.Head.Head}
+use Rattle.cbor4ii_tree.specs.{Inner.Does.{Accepting, Does}, Inner.Leaf.{CanTake, HeadStands}}
+use Rattle.cbor4ii_tree.specs.{Inner.Leaf.{ShowsFirst, ShowsNext}, declared.leaf.Next.Next}
+use Rattle.cbor4ii_tree.proofs.{skip_calls.Doing.{Reached, reached_as}, values.Calls.Peeked}
+use Rattle.cbor4ii_tree.proofs.values.Calls.{does_under}
+
+-- ---- a head, by its width
+
+-- by its width
+pub head_by : (canonical : Bool) (major n : ℕ) (xs ys : List ℕ) (w : Width) → HeadFits w n
+    → (canonical ≡ true → w ≡ shortest_width n) → xs ≡ head major n w ++ ys
+    → HeadAt canonical major n xs ys
+head_by false major n xs ys w fits least is = (w, fits, is)
+head_by true major n xs ys w fits least is = (
+  argument_below w n fits,
+  is ∙ ap (λ u. head major n u ++ ys) (least refl),
+)
+
+-- the width that it has
+pub width_of_head : (canonical : Bool) (major n : ℕ) (xs ys : List ℕ)
+    → HeadAt canonical major n xs ys → (w : Width) × HeadFits w n
+    × (canonical ≡ true → w ≡ shortest_width n) × (xs ≡ head major n w ++ ys)
+width_of_head false major n xs ys h = (h.0, h.1, (λ e. cc), h.2)
+width_of_head true major n xs ys h = (
+  shortest_width n,
+  shortest_fits n h.0,
+  (λ e. refl),
+  h.1,
+)
 
 -- ---- a first byte that was shown
 

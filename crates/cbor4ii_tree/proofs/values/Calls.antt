@@ -5,26 +5,24 @@ use Rattle.std.proofs.lemmas.Int.{to_z-of_z}
 use Rattle.std.specs.Prelude.{pos, ◌^◌}
 use mir.Syntax.{w128}
 use mir.Val.{to_z}
-use Rattle.cbor4ii_rw.specs.{View.View}
-use Rattle.cbor4ii_rw.specs.declared.error.DecodeError.{DecodeError}
+use Rattle.cbor4ii_rw.specs.{View.View, declared.error.DecodeError.DecodeError}
 use Rattle.cbor4ii_items.specs.{Budget.CostFits, Head.{Width, in_first, byte_count, additional}}
 use Rattle.cbor4ii_items.specs.{Head.{HeadFits, indefinite_head}, Heads.{RejectsHead, Begins}}
-use Rattle.cbor4ii_items.specs.Initial.{Info, wide, indefinite_ended, reserved, info_of, initial}
-use Rattle.cbor4ii_items.specs.Initial.{by_major, int_by_info, Sign, unsigned, negative, sign_major}
+use Rattle.cbor4ii_items.specs.Initial.{Info, wide, indefinite_ended, info_of, initial, by_major}
+use Rattle.cbor4ii_items.specs.Initial.{int_by_info, Sign, unsigned, negative, sign_major}
 use Rattle.cbor4ii_items.specs.InputError.{InputError, depth_overflow}
-use Rattle.cbor4ii_tree.specs.{Calls.CanonicalShape.CanonicalShape}
-use Rattle.cbor4ii_tree.specs.{Basis.Cost.{Budget, step_in, cost}, Inner.Does.{Does, Accepting}}
+use Rattle.cbor4ii_tree.specs.{Calls.CanonicalShape.CanonicalShape, Basis.Cost.{Budget, step_in}}
+use Rattle.cbor4ii_tree.specs.{Basis.Cost.cost, Inner.Does.{Does, Accepting}}
 use Rattle.cbor4ii_tree.specs.Basis.InputError.{sign_name, value_name, eof, mismatch, Small, len_of}
 use Rattle.cbor4ii_tree.specs.Laws.Numbers.{additional-lt, info-additional}
 use Rattle.cbor4ii_tree.specs.Calls.ReadingRejects.{ReadingRejectsBy, ReadingRejects}
-use Rattle.cbor4ii_tree.specs.{Calls.Rejections.{RejectsAtStep, Is, MissingAll, Rejection}}
-use Rattle.cbor4ii_tree.specs.{Basis.Tree.Tree}
-use Rattle.cbor4ii_tree.specs.{Basis.Tree.Plain, Inner.Valuing.{Whole, RejectsOneValue}}
+use Rattle.cbor4ii_tree.specs.Calls.Rejections.{RejectsAtStep, Is, MissingAll, Rejection}
+use Rattle.cbor4ii_tree.specs.{Basis.Tree.{Tree, Plain}, Inner.Valuing.{Whole, RejectsOneValue}}
 use Rattle.cbor4ii_tree.specs.Inner.Valuing.{RejectsUnder}
-use Rattle.cbor4ii_tree.proofs.{skip_calls.Bytes.says_width}
-use Rattle.cbor4ii_tree.proofs.skip_calls.Doing.{Reached, does_after, does_err}
-use Rattle.cbor4ii_tree.proofs.answers.Nesting.{reading_by_parts, canonical_by_parts}
-use Rattle.cbor4ii_tree.proofs.heads.Means.{WidthSays, InfoSays, info_says}
+use Rattle.cbor4ii_tree.proofs.{skip_calls.Bytes.says_width, skip_calls.Doing.{Reached, does_after}}
+use Rattle.cbor4ii_tree.proofs.{skip_calls.Doing.does_err, answers.Nesting.reading_by_parts}
+use Rattle.cbor4ii_tree.proofs.{answers.Nesting.canonical_by_parts, heads.Means.WidthSays}
+use Rattle.cbor4ii_tree.proofs.heads.Means.{InfoSays, info_says}
 
 -- ---- an encoding that is read whole
 
@@ -158,8 +156,7 @@ int_rejects inner s b bs e rest m h =
     by_info : (i : Info) → info_of (b % 32) ≡ i → ReadingRejectsBy (λ left part. ReadingRejects part
         left) inner (int_by_info s i) b bs e rest
     by_info (wide w) is = head_cut (sign_name s) (sign_major s) b bs w e rest m is h
-    by_info indefinite_ended is = no_head (sign_name s) (sign_major s) b bs e rest (λ w f. cc) h
-    by_info reserved is = no_head (sign_name s) (sign_major s) b bs e rest (λ w f. cc) h
+    by_info _ is = no_head (sign_name s) (sign_major s) b bs e rest (λ w f. cc) h
 
 -- ---- integers
 

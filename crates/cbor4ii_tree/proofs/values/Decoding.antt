@@ -8,10 +8,9 @@ use Rattle.cbor4ii_items.specs.{Budget.CostFits, Decoding.{Sound, Complete, Reje
 use Rattle.cbor4ii_items.specs.{Decoding.Decodes, InputError.InputError, Laws.Calls.any_memory}
 use Rattle.cbor4ii_tree.specs.{Basis.Cost.{Budget, cost}, Inner.Does.Does}
 use Rattle.cbor4ii_tree.specs.{Basis.Encodings.DecodesTo, Basis.Item.Item}
-use Rattle.cbor4ii_tree.specs.{Calls.Promises.{ReadsValue, value_format}}
-use Rattle.cbor4ii_tree.specs.{Calls.ReadingRejects.ReadingRejects}
-use Rattle.cbor4ii_tree.specs.{Basis.Tree.bytes, Inner.Valuing.{ReadsOneValue, RejectsOneValue}}
-use Rattle.cbor4ii_tree.specs.{Basis.View.view}
+use Rattle.cbor4ii_tree.specs.Calls.Promises.{ReadsValue, value_format}
+use Rattle.cbor4ii_tree.specs.{Calls.ReadingRejects.ReadingRejects, Basis.Tree.bytes}
+use Rattle.cbor4ii_tree.specs.{Inner.Valuing.{ReadsOneValue, RejectsOneValue}, Basis.View.view}
 use Rattle.cbor4ii_tree.specs.declared.value.Value.{Value}
 use Rattle.cbor4ii_tree.proofs.reading.Answer.{not_both}
 

@@ -1,20 +1,28 @@
 -- What values are written as, in the words of the calls that write the parts.
 use Rattle.std.proofs.Common.{◌≡◌, ℕ, List, [], ◌∷◌, ◌++◌, length, Bool, true, false, ℤ, refl, sym}
-use Rattle.std.proofs.Common.{ap, ◌∙◌, append_assoc, rules, Vec, Global, Box}
-use Rattle.cbor4ii_items.specs.{SequenceBytes.items_bytes, Simple.bool_byte}
-use Rattle.cbor4ii_items.specs.{Head.{shortest_width, head}}
-use Rattle.cbor4ii_items.specs.Numbers.{shortest_head}
+use Rattle.std.proofs.Common.{ap, ◌∙◌, append_assoc, rules, Vec, Global, Box, Option, Some, None}
+use Rattle.std.proofs.Common.{OnSome}
+use Rattle.cbor4ii_items.specs.{SequenceBytes.items_bytes, Simple.bool_byte, Head.shortest_width}
+use Rattle.cbor4ii_items.specs.{Head.head, Numbers.shortest_head}
 use Rattle.cbor4ii_tree.specs.Basis.Canonical.{canonical_encoding, canonical_trees, canonical_pairs}
-use Rattle.cbor4ii_tree.specs.{Calls.Encoding.{value_bytes, value_pair_bytes}}
-use Rattle.cbor4ii_tree.specs.{Basis.Item.{boolean, integer}}
-use Rattle.cbor4ii_tree.specs.Basis.Item.{sequence, mapping, tag, item_count, item_pair_count}
-use Rattle.cbor4ii_tree.specs.{Basis.Tree.{bytes_all, bytes_pairs}}
-use Rattle.cbor4ii_tree.specs.{Basis.View.{view, items_view, pairs_view}}
-use Rattle.cbor4ii_tree.specs.declared.value.Value.{the_lemmas}
-use Rattle.cbor4ii_tree.proofs.encodings.Canonical.{count-canonical_encoding, count-pairs}
-use Rattle.cbor4ii_tree.proofs.values.Views.{item_count-items_view, pair_count-pairs_view}
-use Rattle.cbor4ii_tree.proofs.values.Views.{view-Map}
-use Rattle.cbor4ii_tree.specs.declared.value.Value.{Value, Bool as VBool, Integer, Array, Map, Tag}
+use Rattle.cbor4ii_tree.specs.{Calls.Encoding.{value_bytes, value_pair_bytes}, Basis.Item.boolean}
+use Rattle.cbor4ii_tree.specs.Basis.Item.{integer, sequence, mapping, tag, item_count}
+use Rattle.cbor4ii_tree.specs.{Basis.Item.item_pair_count, Basis.Tree.{bytes_all, bytes_pairs}}
+use Rattle.cbor4ii_tree.specs.Basis.View.{view, items_view, pairs_view}
+use Rattle.cbor4ii_tree.specs.declared.value.Value.{the_lemmas, Value, Bool as VBool, Integer}
+use Rattle.cbor4ii_tree.specs.declared.value.Value.{Array, Map, Tag}
+use Rattle.cbor4ii_tree.proofs.encodings.CanonicalShape.{count-canonical_encoding, count-pairs}
+use Rattle.cbor4ii_tree.proofs.values.Views.{item_count-items_view, pair_count-pairs_view, view-Map}
+
+-- ---- calls that write, whose error is left elsewhere
+
+pub on_some : {U P Q : Type 0} (r : Option U) → (P → Q) → OnSome r P → OnSome r Q
+on_some (Some u) f p = f p
+on_some None f p = tt
+
+pub on_any_some : {U : Type 0} (r : Option U) → OnSome r (Unit {0})
+on_any_some (Some u) = tt
+on_any_some None = tt
 
 -- ---- arrays and maps
 
@@ -35,18 +43,6 @@ headed : (major n m k : ℕ) (xs ys : List ℕ) → n ≡ k → m ≡ k → xs �
     → shortest_head major n ++ xs ≡ head major m (shortest_width k) ++ ys
 headed major n m k xs ys e f g = rw (e, f, g) refl
 
-pub sequence-canonical_encoding : (vs : List Value) → shortest_head 4 (length vs) ++ items_bytes
-    value_bytes vs ≡ canonical_encoding (sequence (items_view vs))
-sequence-canonical_encoding vs =
-    headed 4 _ _ (item_count (items_view vs)) _ _ (sym (item_count-items_view vs))
-    (count-canonical_encoding (items_view vs)) (items-canonical_encoding vs)
-
-pub mapping-canonical_encoding : (ms : List (Value × Value)) → shortest_head 5 (length ms)
-    ++ items_bytes value_pair_bytes ms ≡ canonical_encoding (mapping (pairs_view ms))
-mapping-canonical_encoding ms =
-    headed 5 _ _ (item_pair_count (pairs_view ms)) _ _ (sym (pair_count-pairs_view ms))
-    (count-pairs (pairs_view ms)) (pairs-canonical_encoding ms)
-
 -- ---- values
 
 pub view-Bool : (b : Bool) → view (VBool b) ≡ boolean b
@@ -66,14 +62,14 @@ Bool-bytes value b e = bool-canonical_encoding b ∙ sym
 pub Array-bytes : (value : Value) (v : Vec Value Global) (vs : List Value) → value ≡ Array v
     → vs ≡ v.items → shortest_head 4 (length vs) ++ items_bytes value_bytes vs ≡ value_bytes value
 Array-bytes value v vs e same =
-    sequence-canonical_encoding vs ∙ ap (λ l. canonical_encoding (sequence (items_view l))) same
+    (headed 4 _ _ (item_count (items_view vs)) _ _ (sym (item_count-items_view vs)) (count-canonical_encoding (items_view vs)) (items-canonical_encoding vs)) ∙ ap (λ l. canonical_encoding (sequence (items_view l))) same
     ∙ sym (ap canonical_encoding (ap view e ∙ view-Array v))
 
 pub Map-bytes : (value : Value) (v : Vec (Value × Value) Global) (ms : List (Value × Value))
     → value ≡ Map v → ms ≡ v.items
     → shortest_head 5 (length ms) ++ items_bytes value_pair_bytes ms ≡ value_bytes value
 Map-bytes value v ms e same =
-    mapping-canonical_encoding ms ∙ ap (λ l. canonical_encoding (mapping (pairs_view l))) same
+    (headed 5 _ _ (item_pair_count (pairs_view ms)) _ _ (sym (pair_count-pairs_view ms)) (count-pairs (pairs_view ms)) (pairs-canonical_encoding ms)) ∙ ap (λ l. canonical_encoding (mapping (pairs_view l))) same
     ∙ sym (ap canonical_encoding (ap view e ∙ view-Map v))
 
 pub view-Integer : (z : ℤ) → view (Integer z) ≡ integer z

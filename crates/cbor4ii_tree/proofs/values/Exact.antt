@@ -1,26 +1,97 @@
 -- How values compare in the order in which equal ones alone tie.
-use Rattle.std.proofs.Common.{◌≡◌, ◌≢◌, ℕ, List, [], ◌∷◌, ◌++◌, length, false, true, cond}
-use Rattle.std.proofs.Common.{ltb, pos, negsuc, refl, sym, ap, ap₂, ◌∙◌, subst, arith, append_assoc}
-use Rattle.std.proofs.{Common.{append-nil, Vec, Global}, lemmas.Map.Lookups.exact_bytes}
+use Rattle.std.proofs.Common.{◌≡◌, ◌≢◌, ℕ, List, [], ◌∷◌, ◌++◌, length, false, true, cond, ltb, pos}
+use Rattle.std.proofs.Common.{negsuc, refl, sym, ap, ap₂, ◌∙◌, subst, arith, append_assoc}
+use Rattle.std.proofs.Common.{append-nil, Vec, Global, ◌+◌, ◌<◌, drop, get_or, subst₂}
+use Rattle.std.proofs.{lemmas.Map.Lookups.exact_bytes, lemmas.List.drop_more}
 use Rattle.std.specs.{declared.cmp.Ordering.Ordering, declared.cmp.Ordering.TheVariants.Equal}
 use Rattle.std.specs.{Ordering.{nat_cmp, ordering_then}, Cmp.Lexicographic.slice_cmp}
 use Rattle.cbor4ii_items.specs.{SequenceBytes.items_bytes, Initial.{half, single, double}}
 use Rattle.cbor4ii_tree.specs.Basis.Item.{Item, null, boolean, integer, float, bytes_item, text}
-use Rattle.cbor4ii_tree.specs.Basis.Item.{sequence}
-use Rattle.cbor4ii_tree.specs.Basis.Item.{mapping, tag, Items, no_items, item, item_count}
-use Rattle.cbor4ii_tree.specs.Basis.Item.{ItemPairs}
-use Rattle.cbor4ii_tree.specs.{Basis.Item.{no_item_pairs, item_pair, item_pair_count}}
-use Rattle.cbor4ii_tree.specs.{Calls.TotalOrder.parts_of}
-use Rattle.cbor4ii_tree.specs.Calls.TotalOrder.{first_numbers, inner_numbers, items_numbers}
-use Rattle.cbor4ii_tree.specs.Calls.TotalOrder.{numbers}
-use Rattle.cbor4ii_tree.specs.Calls.TotalOrder.{pairs_numbers, value_numbers, pair_numbers}
-use Rattle.cbor4ii_tree.specs.{Calls.Order.{Compares, elements_of, pairs_of}, Basis.View.view}
-use Rattle.cbor4ii_tree.specs.{Basis.View.{items_view, pairs_view}, declared.value.Value.Value}
-use Rattle.cbor4ii_tree.specs.declared.value.Value.{Array, Map}
+use Rattle.cbor4ii_tree.specs.Basis.Item.{sequence, mapping, tag, Items, no_items, item, item_count}
+use Rattle.cbor4ii_tree.specs.Basis.Item.{ItemPairs, no_item_pairs, item_pair, item_pair_count}
+use Rattle.cbor4ii_tree.specs.Calls.TotalOrder.{parts_of, first_numbers, inner_numbers}
+use Rattle.cbor4ii_tree.specs.Calls.TotalOrder.{items_numbers, numbers, pairs_numbers}
+use Rattle.cbor4ii_tree.specs.{Calls.TotalOrder.{value_numbers, pair_numbers}, Calls.Order.Compares}
+use Rattle.cbor4ii_tree.specs.Calls.Order.{elements_of, pairs_of, head_of, after_head, major_of}
+use Rattle.cbor4ii_tree.specs.Basis.View.{view, items_view, pairs_view}
+use Rattle.cbor4ii_tree.specs.declared.value.Value.{Value, Array, Map}
+use Rattle.cbor4ii_tree.specs.Basis.Canonical.{canonical_trees, canonical_pairs}
+use Rattle.cbor4ii_tree.specs.{Calls.Encoding.{value_bytes, value_pair_bytes}, Basis.Tree.bytes_all}
+use Rattle.cbor4ii_tree.specs.Basis.Tree.{bytes_pairs}
 use Rattle.cbor4ii_tree.proofs.encodings.Order.{compares_cons, compares_first, compares_nothing}
-use Rattle.cbor4ii_tree.proofs.encodings.Order.{compares_then, heads_cmp, then-Equal}
-use Rattle.cbor4ii_tree.proofs.values.{Encoding.view-Array, Ordered.Alike, Views.view-Map}
+use Rattle.cbor4ii_tree.proofs.encodings.Order.{compares_then, heads_cmp, then-Equal, same_major}
+use Rattle.cbor4ii_tree.proofs.encodings.Order.{after_array, after_map}
+use Rattle.cbor4ii_tree.proofs.values.Encoding.{view-Array, pairs-canonical_encoding}
+use Rattle.cbor4ii_tree.proofs.{values.Encoding.items-canonical_encoding, values.Views.view-Map}
 use Rattle.cbor4ii_tree.proofs.values.Views.{item_count-items_view, pair_count-pairs_view}
+
+-- ---- values whose encodings begin with equal heads
+
+-- two lists of as many values, whose bytes follow the heads
+pub record Alike {A : Type 0} (bytes : A → List ℕ) (xs ys : List A) (s t : List ℕ) : Type 0 where
+  pub long : length xs ≡ length ys
+  pub first : items_bytes bytes xs ≡ s
+  pub second : items_bytes bytes ys ≡ t
+
+pub arrays : (a b : Value) (v : Vec Value Global) (ys : List Value) → a ≡ Array v
+    → items_view ys ≡ elements_of (view b) → head_of (view a) ≡ head_of (view b)
+    → Alike value_bytes v.items ys (after_head (view a)) (after_head (view b))
+arrays a b v ys is seen e =
+    let whole : view a ≡ sequence (items_view v.items) = ap view is ∙ view-Array v in
+    let major = sym (same_major (view a) (view b) e) ∙ ap major_of whole in
+    let other = after_array (view b) major in
+    record {
+      long =
+          sym (item_count-items_view v.items) ∙ sym (ap (λ w. (head_of w).1) whole)
+          ∙ ap (λ h. h.1) e ∙ sym other.0 ∙ ap item_count (sym seen) ∙ item_count-items_view ys;
+      first = items-canonical_encoding v.items ∙ sym (ap after_head whole);
+      second =
+          items-canonical_encoding ys ∙ ap (λ vs. bytes_all (canonical_trees vs)) seen
+          ∙ sym other.1;
+    }
+
+pub maps : (a b : Value) (v : Vec (Value × Value) Global) (ns : List (Value × Value)) → a ≡ Map v
+    → pairs_view ns ≡ pairs_of (view b) → head_of (view a) ≡ head_of (view b)
+    → Alike value_pair_bytes v.items ns (after_head (view a)) (after_head (view b))
+maps a b v ns is seen e =
+    let whole : view a ≡ mapping (pairs_view v.items) = ap view is ∙ view-Map v in
+    let major = sym (same_major (view a) (view b) e) ∙ ap major_of whole in
+    let other = after_map (view b) major in
+    record {
+      long =
+          sym (pair_count-pairs_view v.items) ∙ sym (ap (λ w. (head_of w).1) whole) ∙ ap (λ h.
+          h.1) e ∙ sym other.0 ∙ ap item_pair_count (sym seen) ∙ pair_count-pairs_view ns;
+      first = pairs-canonical_encoding v.items ∙ sym (ap after_head whole);
+      second =
+          pairs-canonical_encoding ns ∙ ap (λ ms. bytes_pairs (canonical_pairs ms)) seen ∙ sym
+          other.1;
+    }
+
+bytes_from : {A : Type 0} (bytes : A → List ℕ) (xs : List A) (i : ℕ) (x : A) → i < length xs
+    → x ≡ get_or xs i x
+    → items_bytes bytes (drop i xs) ≡ bytes x ++ items_bytes bytes (drop (i + 1) xs)
+bytes_from bytes xs i x lt is =
+    ap (items_bytes bytes) (drop_more xs i x lt)
+    ∙ ap (λ y. items_bytes bytes (y ∷ drop (i + 1) xs)) (sym is)
+
+-- at two that differ
+pub compares_here : {A : Type 0} (bytes : A → List ℕ) (xs ys : List A) (i : ℕ) (x y : A)
+    (r : Ordering) → i < length xs → i < length ys → x ≡ get_or xs i x → y ≡ get_or ys i y
+    → r ≢ Equal → Compares r (bytes x) (bytes y)
+    → Compares r (items_bytes bytes (drop i xs)) (items_bytes bytes (drop i ys))
+compares_here bytes xs ys i x y r in_xs in_ys is are n here =
+    subst₂ (Compares r) (sym (bytes_from bytes xs i x in_xs is))
+    (sym (bytes_from bytes ys i y in_ys are)) (compares_first _ _ n here)
+
+-- past two that are equal
+pub compares_from : {A : Type 0} (bytes : A → List ℕ) (xs ys : List A) (i : ℕ) (x y : A)
+    (r : Ordering) → i < length xs → i < length ys → x ≡ get_or xs i x → y ≡ get_or ys i y
+    → Compares Equal (bytes x) (bytes y)
+    → Compares r (items_bytes bytes (drop (i + 1) xs)) (items_bytes bytes (drop (i + 1) ys))
+    → Compares r (items_bytes bytes (drop i xs)) (items_bytes bytes (drop i ys))
+compares_from bytes xs ys i x y r in_xs in_ys is are here rest =
+    subst₂ (Compares r) (sym (bytes_from bytes xs i x in_xs is))
+    (sym (bytes_from bytes ys i y in_ys are)) (compares_then here rest)
 
 -- ---- the first numbers, and then what stands inside
 
@@ -61,24 +132,16 @@ inside_array : (v : Item) → (parts_of v).0 ≡ 9 → (item_count (elements_of 
     × (inner_numbers v ≡ items_numbers (elements_of v))
 inside_array (sequence vs) e = (refl, refl)
 inside_array (boolean false) e = absurd (omega arith)
-inside_array (boolean true) e = absurd (omega arith)
 inside_array (integer (pos n)) e = absurd (omega arith)
-inside_array (integer (negsuc n)) e = absurd (omega arith)
 inside_array (float half n) e = absurd (omega arith)
-inside_array (float single n) e = absurd (omega arith)
-inside_array (float double n) e = absurd (omega arith)
 inside_array _ e = absurd (omega arith)
 
 inside_map : (v : Item) → (parts_of v).0 ≡ 10 → (item_pair_count (pairs_of v) ≡ (parts_of v).1)
     × (inner_numbers v ≡ pairs_numbers (pairs_of v))
 inside_map (mapping ms) e = (refl, refl)
 inside_map (boolean false) e = absurd (omega arith)
-inside_map (boolean true) e = absurd (omega arith)
 inside_map (integer (pos n)) e = absurd (omega arith)
-inside_map (integer (negsuc n)) e = absurd (omega arith)
 inside_map (float half n) e = absurd (omega arith)
-inside_map (float single n) e = absurd (omega arith)
-inside_map (float double n) e = absurd (omega arith)
 inside_map _ e = absurd (omega arith)
 
 pub exact_arrays : (a b : Value) (v : Vec Value Global) (ys : List Value) → a ≡ Array v
@@ -132,20 +195,15 @@ without_width n = cond (ltb n 3) n (cond (ltb n 4) 2 (cond (ltb n 7) 3 n))
 
 kind-parts : (v : Item) → without_width (parts_of v).0 ≡ kind_of v
 kind-parts (boolean false) = refl
-kind-parts (boolean true) = refl
 kind-parts (integer (pos n)) = refl
-kind-parts (integer (negsuc n)) = refl
 kind-parts (float half n) = refl
-kind-parts (float single n) = refl
-kind-parts (float double n) = refl
 kind-parts _ = refl
 
 split : (s t x y : List ℕ) → length s ≡ length t → s ++ x ≡ t ++ y → (s ≡ t) × (x ≡ y)
 split [] [] x y n e = (refl, e)
-split [] (c ∷ t) x y n e = absurd (omega arith)
-split (b ∷ s) [] x y n e = absurd (omega arith)
 split (b ∷ s) (c ∷ t) x y n e =
     let h = split s t x y (omega arith) (cc) in (ap₂ ◌∷◌ (cc) h.0, h.1)
+split _ _ x y n e = absurd (omega arith)
 
 -- lists that begin with equal numbers
 record SameStart (v w : Item) (x y : List ℕ) : Type 0 where

@@ -3,38 +3,33 @@ use Rattle.std.proofs.Common.{ℕ, ◌≡◌, ◌+◌, ◌≤◌, List, [], ◌�
 use Rattle.std.proofs.Common.{OnSome, OnOk, IfOk, IfErr, IfNone, IsTrue, Result, Ok, Err, Bool}
 use Rattle.std.proofs.Common.{true, false, arith, length-append, subst, Vec, Global, ◌⊎◌, inl, inr}
 use Rattle.std.proofs.Common.{refl, IfSome}
-use Rattle.cbor4ii_rw.specs.Reader.{KeepsAllButBudget, StepsIn, step_back}
-use Rattle.cbor4ii_rw.specs.{View.View, declared.error.DecodeError.DecodeError}
-use Rattle.cbor4ii_items.specs.{Laws.Steps.kept_then, Moves.Moves}
-use Rattle.cbor4ii_tree.specs.{Inner.Deeper.with_budget, Inner.Does.{Does, DoesUnder}}
-use Rattle.cbor4ii_items.specs.InputError.{is_out_of_memory}
-use Rattle.cbor4ii_tree.specs.Calls.Asking.{Asking, Asks, HeadAt, InValue, IndefiniteAt, Never}
-use Rattle.cbor4ii_tree.specs.Calls.Asking.{WantsOnly}
-use Rattle.cbor4ii_tree.specs.Inner.Does.{Anything, Gives, value_or_error}
-use Rattle.cbor4ii_tree.specs.{Inner.Asking.InParts, Inner.Leaf.AsksAfterNext}
-use Rattle.cbor4ii_tree.proofs.values.Asking.{asks_after, asks_around, in_parts, turn_grows}
-use Rattle.cbor4ii_tree.specs.{Inner.Does.error_left, Basis.Item.AreItems}
-use Rattle.cbor4ii_tree.specs.{Inner.Leaf.{DoesAfterNext, ShowsNext, TakesLeaf}}
-use Rattle.cbor4ii_tree.specs.{Inner.LeafRuns.{GivesItems}}
-use Rattle.cbor4ii_tree.specs.Inner.LeafRuns.{PutsItems, PutsItemsUnder, RejectsItemsUnder}
-use Rattle.cbor4ii_tree.specs.Inner.LeafRuns.{TakesRun}
-use Rattle.cbor4ii_tree.specs.Inner.Valuing.{InRange}
+use Rattle.cbor4ii_rw.specs.{Reader.{KeepsAllButBudget, StepsIn, step_back}, View.View}
+use Rattle.cbor4ii_rw.specs.declared.error.DecodeError.{DecodeError}
+use Rattle.cbor4ii_items.specs.{Laws.Steps.kept_then, Moves.Moves, InputError.is_out_of_memory}
+use Rattle.cbor4ii_tree.specs.{Inner.Deeper.with_budget, Inner.Does.{Does, DoesUnder, Anything}}
+use Rattle.cbor4ii_tree.specs.{Inner.Does.{Gives, value_or_error, error_left}, Calls.Asking.Asking}
+use Rattle.cbor4ii_tree.specs.Calls.Asking.{Asks, HeadAt, InValue, IndefiniteAt, Never, WantsOnly}
+use Rattle.cbor4ii_tree.specs.{Inner.Asking.InParts, Inner.Leaf.{AsksAfterNext, DoesAfterNext}}
+use Rattle.cbor4ii_tree.specs.{Inner.Leaf.{ShowsNext, TakesLeaf}, Basis.Item.AreItems}
+use Rattle.cbor4ii_tree.specs.Inner.LeafRuns.{GivesItems, PutsItems, PutsItemsUnder}
+use Rattle.cbor4ii_tree.specs.{Inner.LeafRuns.{RejectsItemsUnder, TakesRun}, Inner.Valuing.InRange}
 use Rattle.cbor4ii_tree.specs.Inner.Valuing.{ReadsIndefiniteItems, ReadsTwoStepsIn, ReadsItems}
-use Rattle.cbor4ii_tree.specs.Inner.Valuing.{ReadsOneValue}
-use Rattle.cbor4ii_tree.specs.Inner.Valuing.{ReadsUnder, RejectsItems, RejectsMajor, RejectsOf}
-use Rattle.cbor4ii_tree.specs.Inner.Valuing.{RejectsOneValue, RejectsUnder, TakesLength}
-use Rattle.cbor4ii_tree.specs.Basis.View.{items_view}
-use Rattle.cbor4ii_tree.specs.declared.{value.Value.Value}
-use Rattle.cbor4ii_tree.specs.declared.{leaf.{Next.Next, TakenOrNext.TakenOrNext}}
-use Rattle.cbor4ii_tree.specs.declared.leaf.TakenOrNext.TheVariants as looked
+use Rattle.cbor4ii_tree.specs.Inner.Valuing.{ReadsOneValue, ReadsUnder, RejectsItems, RejectsMajor}
+use Rattle.cbor4ii_tree.specs.Inner.Valuing.{RejectsOf, RejectsOneValue, RejectsUnder, TakesLength}
+use Rattle.cbor4ii_tree.specs.{Basis.View.items_view, declared.value.Value.Value}
+use Rattle.cbor4ii_tree.specs.{declared.leaf.Next.Next, declared.leaf.TakenOrNext.TakenOrNext}
+use Rattle.cbor4ii_tree.proofs.values.Asking.{asks_after, asks_around, in_parts, turn_grows}
 use Rattle.cbor4ii_tree.proofs.skip_calls.Doing.{does_no_memory, does_ok, does_stepped, reached_by}
-use Rattle.cbor4ii_tree.proofs.skip_calls.{Doing.{refused, steps_in}, Deeper.alike_within}
-use Rattle.cbor4ii_tree.proofs.values.{ByHead.{next_step, next_stepped}, Calls.does_under}
-use Rattle.cbor4ii_tree.proofs.values.{Calls.rejects_under, Items.{array_encoding, items_are}}
-use Rattle.cbor4ii_tree.proofs.values.{Items.map_encoding, LeafRuns.{on_found, run_before}}
-use Rattle.cbor4ii_tree.proofs.values.{LeafRuns.turn_value, Sequences.{Element, RejectsOpen}}
-use Rattle.cbor4ii_tree.proofs.values.Sequences.{answer_as, follow, in_all, made_of, major_of}
-use Rattle.cbor4ii_tree.proofs.values.Sequences.{open_reads, open_row, reads, row, values_of}
+use Rattle.cbor4ii_tree.proofs.skip_calls.Doing.{refused, steps_in}
+use Rattle.cbor4ii_tree.proofs.{skip_calls.Deeper.alike_within, values.ByHead.next_step}
+use Rattle.cbor4ii_tree.proofs.{values.ByHead.next_stepped, values.Calls.does_under}
+use Rattle.cbor4ii_tree.proofs.{values.Calls.rejects_under, values.InRange.array_encoding}
+use Rattle.cbor4ii_tree.proofs.{values.InRange.{items_are, map_encoding}, values.LeafRuns.on_found}
+use Rattle.cbor4ii_tree.proofs.{values.LeafRuns.{run_before, turn_value}, values.Sequences.Element}
+use Rattle.cbor4ii_tree.proofs.values.Sequences.{RejectsOpen, answer_as, follow, in_all, made_of}
+use Rattle.cbor4ii_tree.proofs.values.Sequences.{major_of, open_reads, open_row, reads, row}
+use Rattle.cbor4ii_tree.proofs.values.Sequences.{values_of}
+use Rattle.cbor4ii_tree.specs.declared.leaf.TakenOrNext.TheVariants as looked
 
 -- ---- memory
 

@@ -9,47 +9,41 @@ use mir.Val.{to_z, of_z}
 use Rattle.cbor4ii_rw.specs.{Reader.Advances, View.View, declared.error.DecodeError.DecodeError}
 use Rattle.cbor4ii_items.specs.InputError.{not_canonical, InputError, input_error_of, is_read}
 use Rattle.cbor4ii_items.specs.{InputError.is_depth_overflow, Laws.Answering.fits_zero}
-use Rattle.cbor4ii_items.specs.{Shortest.canonical_name, Budget.CostFits}
-use Rattle.cbor4ii_items.specs.{Decoding.{Sound, Rejects}, Floats.{ReadsFloat, RejectsFloat}}
-use Rattle.cbor4ii_items.specs.{Floats.float_bytes, Head.{head, shortest_width}, Heads.RejectsHead}
-use Rattle.cbor4ii_items.specs.{Heads.ReadsHead, Initial.{Sign, sign_major, unsigned, Initial}}
-use Rattle.cbor4ii_items.specs.Initial.{Info, wide, indefinite_ended, reserved, info_of, initial}
+use Rattle.cbor4ii_items.specs.{Shortest.canonical_name, Budget.CostFits, Decoding.{Sound, Rejects}}
+use Rattle.cbor4ii_items.specs.{Floats.{ReadsFloat, RejectsFloat, float_bytes}, Head.head}
+use Rattle.cbor4ii_items.specs.{Head.shortest_width, Heads.{RejectsHead, ReadsHead}, Initial.Sign}
+use Rattle.cbor4ii_items.specs.Initial.{sign_major, unsigned, Initial, Info, wide, info_of, initial}
 use Rattle.cbor4ii_items.specs.Initial.{simple_by_info, tag_by_info, negative, Simple, simple_byte}
 use Rattle.cbor4ii_items.specs.Initial.{Precision, half, single, double, precision_byte}
 use Rattle.cbor4ii_items.specs.Initial.{precision_bytes, starts_bits, other_simple, simple_false}
 use Rattle.cbor4ii_items.specs.Initial.{simple_true, simple_null, simple_undefined}
-use Rattle.cbor4ii_items.specs.Laws.Heads.{rest_after_head, length-bytes_high_first}
-use Rattle.cbor4ii_items.specs.{Moves.Moves, Numbers.{ReadsArgument, RejectsArgument}}
+use Rattle.cbor4ii_items.specs.{Laws.Heads.{rest_after_head, length-bytes_high_first}, Moves.Moves}
+use Rattle.cbor4ii_items.specs.Numbers.{ReadsArgument, RejectsArgument}
 use Rattle.cbor4ii_tree.specs.Calls.CanonicalRejects.{ShortestAt, CanonicalRejectsBy}
-use Rattle.cbor4ii_tree.specs.{Calls.CanonicalRejects.{CanonicalOtherRejects, AfterShortest}}
-use Rattle.cbor4ii_tree.specs.{Basis.Cost.Budget}
-use Rattle.cbor4ii_tree.specs.{Basis.Cost.cost, Inner.Does.{Accepting, Does, value_or_error}}
-use Rattle.cbor4ii_tree.specs.{Basis.InputError.eof}
-use Rattle.cbor4ii_tree.specs.Basis.InputError.{unsupported, Small, len_of, precision_name}
-use Rattle.cbor4ii_tree.specs.Basis.InputError.{tag_name}
-use Rattle.cbor4ii_tree.specs.{Basis.InputError.value_name, Basis.Item.{integer, float, tag}}
-use Rattle.cbor4ii_tree.specs.{Laws.Binds.step_up, Laws.Initials.{initial_tag, initial_bits}}
-use Rattle.cbor4ii_tree.specs.{Laws.Initials.initial_simple, Basis.Meaning.number}
-use Rattle.cbor4ii_tree.specs.Calls.ReadingRejects.{ReadingRejectsBy, ReadingRejects}
-use Rattle.cbor4ii_tree.specs.{Calls.Rejections.{Rejection, MissingAll}}
-use Rattle.cbor4ii_tree.specs.{Basis.Tree.{int, tagged, simple, bits}}
-use Rattle.cbor4ii_tree.specs.Calls.Asking.{HeadAt}
-use Rattle.cbor4ii_tree.specs.{Basis.Tree.bytes, Inner.Valuing.{ReadsOneValue, ReadsTagged}}
-use Rattle.cbor4ii_tree.specs.Inner.Valuing.{RejectsOneValue, ReadsUnder, RejectsUnder, TakesTag}
-use Rattle.cbor4ii_tree.specs.{Inner.Valuing.{RejectsFirst, RejectsOf, SimpleOf}, Basis.View.view}
-use Rattle.cbor4ii_tree.specs.declared.value.FloatBits.{FloatBits}
+use Rattle.cbor4ii_tree.specs.Calls.CanonicalRejects.{CanonicalOtherRejects, AfterShortest}
+use Rattle.cbor4ii_tree.specs.{Basis.Cost.{Budget, cost}, Inner.Does.{Accepting, Does}}
+use Rattle.cbor4ii_tree.specs.{Inner.Does.value_or_error, Basis.InputError.{eof, unsupported}}
+use Rattle.cbor4ii_tree.specs.Basis.InputError.{Small, len_of, precision_name, tag_name, value_name}
+use Rattle.cbor4ii_tree.specs.{Basis.Item.{integer, float, tag}, Laws.Binds.step_up}
+use Rattle.cbor4ii_tree.specs.Laws.Initials.{initial_tag, initial_bits, initial_simple}
+use Rattle.cbor4ii_tree.specs.{Basis.Meaning.number, Calls.ReadingRejects.ReadingRejectsBy}
+use Rattle.cbor4ii_tree.specs.{Calls.ReadingRejects.ReadingRejects, Calls.Rejections.Rejection}
+use Rattle.cbor4ii_tree.specs.{Calls.Rejections.MissingAll, Basis.Tree.{int, tagged, simple, bits}}
+use Rattle.cbor4ii_tree.specs.{Basis.Tree.bytes, Calls.Asking.HeadAt, Inner.Valuing.ReadsOneValue}
+use Rattle.cbor4ii_tree.specs.Inner.Valuing.{ReadsTagged, RejectsOneValue, ReadsUnder, RejectsUnder}
+use Rattle.cbor4ii_tree.specs.Inner.Valuing.{TakesTag, RejectsFirst, RejectsOf, SimpleOf}
+use Rattle.cbor4ii_tree.specs.{Basis.View.view, declared.value.FloatBits.FloatBits}
 use Rattle.cbor4ii_tree.specs.declared.value.FloatBits.TheVariants.{F16, F32, F64}
 use Rattle.cbor4ii_tree.specs.declared.value.Value.{Value, Integer, Float, the_lemmas}
+use Rattle.cbor4ii_tree.specs.Inner.Leaf.{ShowsFirst}
 use Rattle.cbor4ii_tree.proofs.{canonical.FitsCanonically.precision_major, skip_calls.Doing.Reached}
 use Rattle.cbor4ii_tree.proofs.skip_calls.Doing.{reached_start, reached_by, reached_as, does_ok}
 use Rattle.cbor4ii_tree.proofs.skip_calls.Doing.{does_err, does_after, does_reject, does_rejects}
-use Rattle.cbor4ii_tree.specs.Inner.Leaf.{ShowsFirst}
 use Rattle.cbor4ii_tree.proofs.skip_calls.Doing.{call_rejects, reached_sound}
-use Rattle.cbor4ii_tree.proofs.values.{ByHead.taken_first, Calls.{whole_is, Peeked}}
-use Rattle.cbor4ii_tree.proofs.values.HeadAt.{head_by, width_of_head}
-use Rattle.cbor4ii_tree.proofs.values.Calls.{head_cut, no_head, initial_of, small_z, fits_less}
-use Rattle.cbor4ii_tree.proofs.{values.Calls.{whole, does_under}, values.Encoding.view-Integer}
-use Rattle.cbor4ii_tree.proofs.parts.Rejecting.{headed_by}
+use Rattle.cbor4ii_tree.proofs.values.ByHead.{taken_first, head_by, width_of_head}
+use Rattle.cbor4ii_tree.proofs.values.Calls.{whole_is, Peeked, head_cut, no_head, initial_of}
+use Rattle.cbor4ii_tree.proofs.values.Calls.{small_z, fits_less, whole, does_under}
+use Rattle.cbor4ii_tree.proofs.{values.Encoding.view-Integer, parts.Rejecting.headed_by}
 
 -- ---- after a byte that was looked at
 
@@ -377,8 +371,7 @@ tag_rejects inner b bs e rest m h =
     by_info : (i : Info) → info_of (b % 32) ≡ i
         → ReadingRejectsBy (λ left part. ReadingRejects part left) inner (tag_by_info i) b bs e rest
     by_info (wide w) is = inl (head_cut _ 6 _ _ _ _ _ m is h)
-    by_info indefinite_ended is = no_head tag_name 6 b bs e rest (λ w f. cc) h
-    by_info reserved is = no_head tag_name 6 b bs e rest (λ w f. cc) h
+    by_info _ is = no_head tag_name 6 b bs e rest (λ w f. cc) h
 
 -- the number that the head of a tag has
 pub tag_taken : {E : Type 0} {a c : View} (r : Option ℕ) (failure : Option (DecodeError E))

@@ -2,23 +2,57 @@
 use Rattle.std.proofs.Common.{◌≡◌, ◌≢◌, ℕ, zero, suc, ◌+◌, ◌-◌, ◌<◌, ◌≤◌, List, [], ◌∷◌, map}
 use Rattle.std.proofs.Common.{length, drop, get_or, Bool, true, false, cond, inl, inr, ◌↔◌, ⊎_elim}
 use Rattle.std.proofs.Common.{refl, sym, ap, ap₂, ◌∙◌, subst, arith, Bor, get_or-drop, length-drop}
-use Rattle.std.proofs.lemmas.List.{drop_more}
-use Rattle.std.proofs.lemmas.List.Sorted.{IsPermutation-map, IsPermutation-sym, sorted_far}
-use Rattle.std.proofs.lemmas.List.Sorted.{sum_by-IsPermutation}
+use Rattle.std.proofs.{lemmas.List.drop_more, lemmas.List.Sorted.IsPermutation-map}
+use Rattle.std.proofs.lemmas.List.Sorted.{IsPermutation-sym, sorted_far, sum_by-IsPermutation}
 use Rattle.std.proofs.{lemmas.List.Sorted.ranks_by, lemmas.List.Sums.sum_by-cons}
 use Rattle.std.proofs.lemmas.Cmp.{nat_list_cmp_total}
-use Rattle.std.specs.{Cmp.{IsStrictWeakOrder}, List.sum_by}
-use Rattle.std.specs.List.Sorted.{IsPermutation, IsSortedBy}
-use Rattle.std.specs.Ordering.{is_lt, nat_cmp, ordering_reverse}
-use Rattle.std.specs.{Cmp.Lexicographic.slice_cmp, declared.cmp.Ordering.Ordering}
-use Rattle.std.specs.declared.cmp.Ordering.TheVariants.{Less, Equal, Greater}
-use Rattle.cbor4ii_tree.specs.{Calls.Access.{HasKey, HasEqualKeys}, Basis.Item.Item}
-use Rattle.cbor4ii_tree.specs.Calls.TotalOrder.{IsOneOf, Repeats, is_before, key_of, numbers}
-use Rattle.cbor4ii_tree.specs.Calls.TotalOrder.{item_behind}
+use Rattle.std.specs.{Cmp.IsStrictWeakOrder, List.sum_by, List.Sorted.{IsPermutation, IsSortedBy}}
+use Rattle.std.specs.{Ordering.{is_lt, nat_cmp, ordering_reverse}, Cmp.Lexicographic.slice_cmp}
+use Rattle.std.specs.{declared.cmp.Ordering.Ordering, declared.cmp.Ordering.TheVariants.Equal}
+use Rattle.std.specs.{declared.cmp.Ordering.TheVariants.{Less, Greater}, Prelude.Some}
+use Rattle.cbor4ii_tree.specs.{Calls.Access.{HasKey, HasEqualKeys, find_text}, Basis.Item.Item}
+use Rattle.cbor4ii_tree.specs.{Basis.Item.{text, ItemPairs, item_pair}, Calls.TotalOrder.IsOneOf}
+use Rattle.cbor4ii_tree.specs.Calls.TotalOrder.{Repeats, is_before, key_of, numbers, item_behind}
 use Rattle.cbor4ii_tree.specs.{Calls.TotalOrder.value_numbers, Calls.Order.Compares}
 use Rattle.cbor4ii_tree.specs.{Calls.ItemEquality.{item_eq, item_eq-Decides}, Basis.View.pairs_view}
-use Rattle.cbor4ii_tree.specs.declared.value.Value.{Value}
+use Rattle.cbor4ii_tree.specs.{Basis.View.view, declared.value.Value.Value}
 use Rattle.cbor4ii_tree.proofs.{encodings.Order.compares_alone, values.Exact.exact}
+
+-- ---- the first pair of a map whose key is a text
+
+false_from_not : (b : Bool) → ¬ (b ≡ true) → b ≡ false
+false_from_not true n = absurd (n refl)
+false_from_not false n = refl
+
+find_text-first : (key : List ℕ) (k v : Item) (ms : ItemPairs) → k ≡ text key
+    → find_text key (item_pair k v ms) ≡ Some v
+find_text-first key k v ms e = rw ((item_eq-Decides k (text key)).1 e) refl
+
+find_text-later : (key : List ℕ) (k v : Item) (ms : ItemPairs) → k ≢ text key
+    → find_text key (item_pair k v ms) ≡ find_text key ms
+find_text-later key k v ms n =
+    rw (false_from_not (item_eq k (text key)) (λ e. n ((item_eq-Decides k (text key)).0 e))) refl
+
+-- the pairs from a place on are the one there and those after it
+pairs_from : (ms : List (Value × Value)) (i : ℕ) (m : Value × Value) → i < length ms
+    → m ≡ get_or ms i m
+    → pairs_view (drop i ms) ≡ item_pair (view m.0) (view m.1) (pairs_view (drop (i + 1) ms))
+pairs_from ms i m lt is =
+    ap pairs_view (drop_more ms i m lt) ∙ ap (λ n. pairs_view (n ∷ drop (i + 1) ms)) (sym is)
+
+pub find_text-here : (key : List ℕ) (ms : List (Value × Value)) (i : ℕ) (m : Value × Value)
+    → i < length ms → m ≡ get_or ms i m → view m.0 ≡ text key
+    → find_text key (pairs_view (drop i ms)) ≡ Some (view m.1)
+find_text-here key ms i m lt is e =
+    ap (find_text key) (pairs_from ms i m lt is) ∙ find_text-first key (view m.0) (view m.1)
+    (pairs_view (drop (i + 1) ms)) e
+
+pub find_text-past : (key : List ℕ) (ms : List (Value × Value)) (i : ℕ) (m : Value × Value)
+    → i < length ms → m ≡ get_or ms i m → view m.0 ≢ text key
+    → find_text key (pairs_view (drop i ms)) ≡ find_text key (pairs_view (drop (i + 1) ms))
+find_text-past key ms i m lt is n =
+    ap (find_text key) (pairs_from ms i m lt is) ∙ find_text-later key (view m.0) (view m.1)
+    (pairs_view (drop (i + 1) ms)) n
 
 -- ---- the keys of a map as a list
 

@@ -1,54 +1,44 @@
 -- Runs: values that hold no other, one after another in shown bytes.
-use Rattle.std.proofs.Common.{◌≡◌, ℕ, ◌+◌, ◌-◌, ◌*◌, ◌<◌, ◌≤◌, ◌⊎◌, List, [], ◌∷◌, ◌++◌}
-use Rattle.std.proofs.Common.{length, take, drop, Option, Some, None, refl, sym, ap, ap₂, ◌∙◌}
-use Rattle.std.proofs.Common.{subst, arith, append_assoc, length-append, length-drop}
-use Rattle.std.proofs.Common.{take-append-drop, Vec, Global, nat_lt, Bool, true, false, not, OnSome}
-use Rattle.std.proofs.Common.{IsTrue}
-use Rattle.std.proofs.{Common.{Ok, Err, inl, inr}, Math.Seq.take-add}
-use Rattle.std.proofs.{lemmas.Bool.{ltb-true, ltb-false}, lemmas.List.{append-nil, drop-take}}
+use Rattle.std.proofs.Common.{◌≡◌, ℕ, ◌+◌, ◌-◌, ◌*◌, ◌<◌, ◌≤◌, ◌⊎◌, List, [], ◌∷◌, ◌++◌, length}
+use Rattle.std.proofs.Common.{take, drop, Option, Some, None, refl, sym, ap, ap₂, ◌∙◌, subst, arith}
+use Rattle.std.proofs.Common.{append_assoc, length-append, length-drop, take-append-drop, Vec}
+use Rattle.std.proofs.Common.{Global, nat_lt, Bool, true, false, not, OnSome, IsTrue, Ok, Err, inl}
+use Rattle.std.proofs.{Common.inr, Math.Seq.take-add, lemmas.Bool.{ltb-true, ltb-false}}
+use Rattle.std.proofs.lemmas.List.{append-nil, drop-take}
 use Rattle.std.specs.Option.{is_some}
 use denote.Ref.{Bor}
 use Rattle.cbor4ii_rw.specs.Reader.{Advances, ReaderFails, IsPrefix, KeepsAllButBudget, Shows}
-use Rattle.cbor4ii_rw.specs.{Reader.{StepsIn}, View.{View, IfKnown}}
+use Rattle.cbor4ii_rw.specs.{Reader.StepsIn, View.{View, IfKnown}}
 use Rattle.cbor4ii_rw.specs.declared.error.DecodeError.{DecodeError}
 use Rattle.cbor4ii_rw.specs.declared.error.DecodeError.TheVariants.{OutOfMemory, Eof, Read}
 use Rattle.cbor4ii_items.specs.InputError.{depth_overflow, input_error_of, is_out_of_memory}
-use Rattle.cbor4ii_items.specs.InputError.{is_read}
-use Rattle.cbor4ii_items.specs.{Laws.Answering.fits_zero, Budget.CostFits, Head.IsBytes}
-use Rattle.cbor4ii_items.specs.{Laws.Contents.lends_prefix}
-use Rattle.cbor4ii_items.specs.Moves.{ReaderFailed, Kept}
+use Rattle.cbor4ii_items.specs.{InputError.is_read, Laws.Answering.fits_zero, Budget.CostFits}
+use Rattle.cbor4ii_items.specs.{Head.IsBytes, Laws.Contents.lends_prefix, Moves.ReaderFailed}
+use Rattle.cbor4ii_items.specs.Moves.{Kept}
 use Rattle.cbor4ii_tree.specs.Inner.Valuing.{ReadsValuePairs, ReadsOneValue, flat_values, Whole}
 use Rattle.cbor4ii_tree.specs.Inner.Valuing.{RejectsItems, ReadsItems, ReadsEach, ReadsUnder}
-use Rattle.cbor4ii_tree.specs.{Inner.Valuing.{RejectsOneValue, RejectsUnder}}
-use Rattle.cbor4ii_tree.specs.{Inner.BytesAhead.Offers}
-use Rattle.cbor4ii_tree.specs.{declared.leaf.Next.Next, Basis.Cost.Budget}
-use Rattle.cbor4ii_tree.specs.{Inner.Does.{Accepting, Does}}
-use Rattle.cbor4ii_tree.specs.{Calls.Asking.Asks, Inner.Asking.InParts, Inner.Does.error_left}
-use Rattle.cbor4ii_tree.specs.{Basis.InputError.{InputError, value_name}}
+use Rattle.cbor4ii_tree.specs.Inner.Valuing.{RejectsOneValue, RejectsUnder}
+use Rattle.cbor4ii_tree.specs.{Inner.BytesAhead.Offers, declared.leaf.Next.Next, Basis.Cost.Budget}
+use Rattle.cbor4ii_tree.specs.{Inner.Does.{Accepting, Does, error_left}, Calls.Asking.Asks}
+use Rattle.cbor4ii_tree.specs.{Inner.Asking.InParts, Basis.InputError.{InputError, value_name}}
 use Rattle.cbor4ii_tree.specs.{Basis.InputError.Small, Basis.Item.{AreItems, item, no_items}}
-use Rattle.cbor4ii_tree.specs.{Laws.Binds.step_up, Inner.Leaf.{DoesAfterNext, SeesNext}}
-use Rattle.cbor4ii_tree.specs.Inner.Leaf.{ShowsNext, StandsAhead, WantsContent}
-use Rattle.cbor4ii_tree.specs.Inner.LeafRuns.{flat_pairs, IsValueLeaf, StandFirst, PutsAfter}
-use Rattle.cbor4ii_tree.specs.Inner.LeafRuns.{PutsRun}
+use Rattle.cbor4ii_tree.specs.{Laws.Binds.step_up, Inner.Leaf.{DoesAfterNext, SeesNext, ShowsNext}}
+use Rattle.cbor4ii_tree.specs.{Inner.Leaf.{StandsAhead, WantsContent}, Inner.LeafRuns.flat_pairs}
+use Rattle.cbor4ii_tree.specs.Inner.LeafRuns.{IsValueLeaf, StandFirst, PutsAfter, PutsRun}
 use Rattle.cbor4ii_tree.specs.Inner.LeafRuns.{RefusedMemory, PutsItems, RunsBefore, PutsItemsUnder}
 use Rattle.cbor4ii_tree.specs.Inner.LeafRuns.{KeepsItems, RejectsItemsUnder, RejectsWhereNone}
-use Rattle.cbor4ii_tree.specs.Inner.LeafRuns.{TakesValuesBy}
-use Rattle.cbor4ii_tree.specs.{Inner.LeafRuns.TakesRun, Basis.Meaning.{values}}
-use Rattle.cbor4ii_tree.specs.{Calls.Rejections.Each}
-use Rattle.cbor4ii_tree.specs.{Calls.Rejections.{Rejection, RejectsInCount}}
-use Rattle.cbor4ii_tree.specs.{Basis.Tree.{Tree, Trees, no_trees}}
-use Rattle.cbor4ii_tree.specs.{Basis.Tree.{tree, bytes, bytes_all, count}, Basis.View.{items_view}}
-use Rattle.cbor4ii_tree.specs.declared.value.Value.{Value}
+use Rattle.cbor4ii_tree.specs.{Inner.LeafRuns.{TakesValuesBy, TakesRun}, Basis.Meaning.values}
+use Rattle.cbor4ii_tree.specs.{Calls.Rejections.{Each, Rejection, RejectsInCount}, Basis.Tree.Tree}
+use Rattle.cbor4ii_tree.specs.Basis.Tree.{Trees, no_trees, tree, bytes, bytes_all, count}
+use Rattle.cbor4ii_tree.specs.{Basis.View.items_view, declared.value.Value.Value}
 use Rattle.cbor4ii_tree.proofs.{parts.Prefixes.IsBytes-append, skip_calls.Doing.does_ok}
-use Rattle.cbor4ii_tree.proofs.skip_calls.Doing.{does_no_step, does_no_memory}
-use Rattle.cbor4ii_tree.proofs.skip_calls.Doing.{Reached, reached_start, reached_then}
-use Rattle.cbor4ii_tree.proofs.skip_calls.Doing.{reached_by, does_err}
-use Rattle.cbor4ii_tree.proofs.parts.Joined.{join, count-join}
-use Rattle.cbor4ii_tree.proofs.{parts.Joined.{each-join, bytes-join}, parts.Rejecting.in_count}
-use Rattle.cbor4ii_tree.proofs.values.Calls.{whole, value_no_step, value_no_byte, rejects_under}
-use Rattle.cbor4ii_tree.proofs.{values.Calls.stops_under, values.Ends.none_shown}
-use Rattle.cbor4ii_tree.proofs.{values.InRange.AreItems-append}
-use Rattle.cbor4ii_tree.proofs.values.Leaves.{MayTake, wants_may}
+use Rattle.cbor4ii_tree.proofs.skip_calls.Doing.{does_no_step, does_no_memory, Reached}
+use Rattle.cbor4ii_tree.proofs.skip_calls.Doing.{reached_start, reached_then, reached_by, does_err}
+use Rattle.cbor4ii_tree.proofs.parts.Pushed.{join, count-join, each-join, bytes-join}
+use Rattle.cbor4ii_tree.proofs.{parts.Rejecting.in_count, values.Calls.{whole, value_no_step}}
+use Rattle.cbor4ii_tree.proofs.values.Calls.{value_no_byte, rejects_under, stops_under}
+use Rattle.cbor4ii_tree.proofs.values.Leaves.{none_shown, MayTake, wants_may}
+use Rattle.cbor4ii_tree.proofs.values.InRange.{AreItems-append}
 use Rattle.cbor4ii_tree.specs.declared.run.RunSeen.TheVariants as run
 
 -- ---- lists of values
@@ -57,9 +47,8 @@ values-join : (ts us : Trees) (vs ws : List Value) → values ts ≡ items_view 
     → values us ≡ items_view ws → values (join ts us) ≡ items_view (vs ++ ws)
 unfolding join
 values-join no_trees us [] ws e f = f
-values-join no_trees us (v ∷ vs) ws e f = cc
-values-join (tree t ts) us [] ws e f = cc
 values-join (tree t ts) us (v ∷ vs) ws e f = cc (values-join ts us vs ws (cc) f)
+values-join _ us _ ws e f = cc
 
 pub flat-push : (ms : List (Value × Value)) (m : Value × Value)
     → flat_values (ms ++ m ∷ []) ≡ flat_values ms ++ m.0 ∷ m.1 ∷ []
@@ -319,14 +308,7 @@ next_after canonical size n {shown = shown} {a = a} {b = b} shows prefix within 
             subst (λ x. take (length (drop size shown)) x ≡ drop size shown) (sym e)
             (begins_after size shown t.0 within p.begins);
         within =
-            omega (
-              arith,
-              ap length e,
-              length-drop size t.0,
-              length-drop size shown,
-              p.within,
-              within,
-            );
+            omega (arith, ap length e, length-drop {A = ℕ}, p.within, within);
         ends = λ some none. absurd (omega (arith, none, ap length s.begins));
       };
   is = s;
@@ -577,13 +559,8 @@ module _ (canonical : Bool) (full : ℕ) (before : List Value) {E : Type 0} {a :
           canonical run.mid.budget) _ (λ xs ys z rest h s budget step.
           let p = h budget step in
           rejected_after (Whole canonical budget) (RejectsOneValue canonical budget)
-          _ _ _ _ _ _ p.2 (omega (
-            arith,
-            lacks,
-            ap length p.1,
-            length-append
-                before p.0,
-          )) (rejects_under canonical a.budget budget ys z rest step
+          _ _ _ _ _ _ p.2 (omega (arith, lacks, ap length p.1, length-append {A = Value}))
+          (rejects_under canonical a.budget budget ys z rest step
           (subst (λ o. RejectsUnder canonical o
           ys z rest) run.puts.moves.by.budget s))) (reached_by run.puts) (d run.mid run.shows)
 

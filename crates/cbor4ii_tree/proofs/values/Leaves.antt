@@ -1,40 +1,59 @@
 -- Values that hold no other, where they stand whole in shown bytes.
 use Rattle.std.proofs.Common.{◌≡◌, ◌≢◌, ℕ, suc, ◌+◌, ◌-◌, ◌*◌, ◌/◌, ◌%◌, ◌^◌, ◌<◌, ◌≤◌, ℤ, List, []}
 use Rattle.std.proofs.Common.{◌∷◌, ◌++◌, length, take, drop, take-append-drop, length-append}
-use Rattle.std.proofs.Common.{length-drop, Ok, Err, Option, Some, None, IfSome, refl, sym}
-use Rattle.std.proofs.Common.{ap, ◌∙◌, subst, arith, get_or, Bool, true, w8, Fits}
+use Rattle.std.proofs.Common.{length-drop, Ok, Err, Option, Some, None, IfSome, refl, sym, ap, ◌∙◌}
+use Rattle.std.proofs.Common.{subst, arith, get_or, Bool, true, w8, Fits}
 use Rattle.std.proofs.{Math.Seq.{take-append_seam, take-add}, lemmas.List.length-take-le}
 use Rattle.std.proofs.Math.Facts.{Fits-lt-pow}
 use Rattle.std.specs.Int.{bytes_high_first}
 use denote.Ref.{Bor}
-use Rattle.cbor4ii_rw.specs.{Reader.{Advances}, View.{View}}
+use Rattle.cbor4ii_rw.specs.{Reader.{Advances, Shows, IsPrefix}, View.{View, IfKnown}}
 use Rattle.cbor4ii_rw.specs.declared.error.DecodeError.TheVariants.{OutOfMemory, Eof}
 use Rattle.cbor4ii_items.specs.{Laws.Answering.fits_zero, Laws.Contents.lends_prefix}
-use Rattle.cbor4ii_items.specs.Laws.Heads.{length-bytes_high_first}
-use Rattle.cbor4ii_items.specs.{Budget.CostFits, Head.{Width, byte_count, additional, HeadFits}}
-use Rattle.cbor4ii_items.specs.Head.{ArgumentAfter, IsBytes, shortest_width, in_first, one, two}
-use Rattle.cbor4ii_items.specs.Head.{four}
-use Rattle.cbor4ii_items.specs.{Head.{eight, head}, Initial.{Sign, sign_major, Precision}}
-use Rattle.cbor4ii_items.specs.Initial.{precision_byte, precision_bytes, half, single, double}
-use Rattle.cbor4ii_items.specs.Initial.{Simple, simple_false, unsigned, negative, Kind, kind_major}
-use Rattle.cbor4ii_items.specs.Initial.{simple_byte, byte_string, text_string}
+use Rattle.cbor4ii_items.specs.{Laws.Heads.length-bytes_high_first, Budget.CostFits, Head.Width}
+use Rattle.cbor4ii_items.specs.Head.{byte_count, additional, HeadFits, ArgumentAfter, IsBytes}
+use Rattle.cbor4ii_items.specs.Head.{shortest_width, in_first, one, two, four, eight, head}
+use Rattle.cbor4ii_items.specs.Initial.{Sign, sign_major, Precision, precision_byte}
+use Rattle.cbor4ii_items.specs.Initial.{precision_bytes, half, single, double, Simple, simple_false}
+use Rattle.cbor4ii_items.specs.Initial.{unsigned, negative, Kind, kind_major, simple_byte}
+use Rattle.cbor4ii_items.specs.{Initial.{byte_string, text_string}, InputError.InputError}
+use Rattle.cbor4ii_items.specs.Laws.Running.{shows_kept}
 use Rattle.cbor4ii_tree.specs.{Inner.Valuing.{RejectsUnder, SimpleOf, ReadsUnder}, Basis.View.view}
-use Rattle.cbor4ii_tree.specs.{declared.leaf.Next.Next}
-use Rattle.cbor4ii_tree.specs.{declared.value.FloatBits.FloatBits, declared.value.Value.Value}
-use Rattle.cbor4ii_tree.specs.{declared.value.Value.{Integer, Float}, Inner.Does.Does}
-use Rattle.cbor4ii_tree.specs.{Basis.InputError.{value_name, Small}}
-use Rattle.cbor4ii_tree.specs.{Basis.Item.{integer, float, IsItem}}
-use Rattle.cbor4ii_tree.specs.{Laws.Binds.step_up, Inner.Leaf.{CanTake, ShortestHead}}
-use Rattle.cbor4ii_tree.specs.Inner.Leaf.{StandsAhead, SeesLeaf, ShowsNext}
-use Rattle.cbor4ii_tree.specs.{Inner.Leaf.WantsContent}
-use Rattle.cbor4ii_tree.specs.{Basis.Meaning.{number, simple_item, content_item}}
-use Rattle.cbor4ii_tree.specs.{Inner.BytesAhead.Offers}
-use Rattle.cbor4ii_tree.specs.{Basis.Tree.{int, bits, simple, string, TextIsUtf8}}
+use Rattle.cbor4ii_tree.specs.{declared.leaf.Next.Next, declared.value.FloatBits.FloatBits}
+use Rattle.cbor4ii_tree.specs.{declared.value.Value.{Value, Integer, Float}, Inner.Does.Does}
+use Rattle.cbor4ii_tree.specs.{Inner.Does.Accepting, Basis.InputError.{value_name, Small, eof}}
+use Rattle.cbor4ii_tree.specs.{Basis.Item.{integer, float, IsItem}, Laws.Binds.step_up}
+use Rattle.cbor4ii_tree.specs.Inner.Leaf.{CanTake, ShortestHead, StandsAhead, SeesLeaf, ShowsNext}
+use Rattle.cbor4ii_tree.specs.{Inner.Leaf.WantsContent, Basis.Meaning.{number, simple_item}}
+use Rattle.cbor4ii_tree.specs.{Basis.Meaning.content_item, Inner.BytesAhead.Offers, Basis.Tree.int}
+use Rattle.cbor4ii_tree.specs.Basis.Tree.{bits, simple, string, TextIsUtf8}
 use Rattle.cbor4ii_tree.specs.declared.leaf.ValueSeen.TheVariants.{Whole, NoMemory, End}
-use Rattle.cbor4ii_tree.proofs.{heads.Inverse.IsBytes-take, skip_calls.Doing.does_ok}
-use Rattle.cbor4ii_tree.proofs.{skip_calls.Doing.does_no_memory, values.Calls.value_no_byte}
-use Rattle.cbor4ii_tree.proofs.{values.Calls.{fits_less, whole}, values.Encoding.view-Integer}
-use Rattle.cbor4ii_tree.proofs.{values.Ends.none_shown, skip_calls.Leaves.shown_bytes}
+use Rattle.cbor4ii_tree.specs.Calls.Rejections.{Rejection, Is}
+use Rattle.cbor4ii_tree.proofs.{heads.Means.IsBytes-take, skip_calls.Doing.does_ok}
+use Rattle.cbor4ii_tree.proofs.skip_calls.Doing.{does_no_memory, does_reject}
+use Rattle.cbor4ii_tree.proofs.values.Calls.{value_no_byte, fits_less, whole}
+use Rattle.cbor4ii_tree.proofs.{values.Encoding.view-Integer, skip_calls.Leaves.shown_bytes}
+
+-- ---- no byte is left where a value is to begin
+
+-- an end of the input there fails so
+abbrev pub Ending : Rejection → Type 0
+Ending T = (z : InputError) (rest : List ℕ) → Is (eof value_name (Small 1)) [] z rest → T [] z rest
+
+-- a look has shown no byte
+pub none_shown : {V E : Type 0} (A : Accepting V) (T : Rejection) → Ending T → (want : ℕ)
+    {shown : List ℕ} {a b : View} {name : Bor (List ℕ)} → name.now ≡ value_name → 0 < want
+    → Shows shown a b → IfKnown a.known (IsPrefix want shown) → length shown ≡ 0
+    → Does {V = V} {E = E} A T a b (Err (Eof name (Small 1)))
+none_shown A T ends want is some shows prefix none =
+    let z = eof value_name (Small 1) in
+    does_reject (λ xs ys. (xs ≡ []) × (ys ≡ [])) A T z (ap (λ n. Some (eof n (Small 1))) is) refl
+    refl (λ xs ys h. subst (λ x. T x z ys) (sym h.0) (ends z ys (refl, h.1))) (record {
+      kept = shows_kept shows;
+      at = λ xs known.
+          let e : xs ≡ [] = (prefix xs known).ends some none in
+          ([], shows.known xs known ∙ ap Some e, (e, refl));
+    })
 
 -- what a slice of bytes shows
 pub fresh_shown : (shown : List ℕ) → ((i : ℕ) → Fits w8 (get_or shown i 0)) → IsBytes shown
@@ -77,12 +96,7 @@ module _ (b n k : ℕ) (bs : List ℕ) (small : b < 256) (fresh : IsBytes bs)
     (a : ArgumentAfter (b % 32) bs n k) where
   stands : k ≤ length bs
   stands =
-      omega (
-        arith,
-        ap length a.is,
-        length-append (bytes_high_first k n) (drop k bs),
-        length-bytes_high_first k n,
-      )
+      omega (arith, ap length a.is, length-append {A = ℕ}, length-bytes_high_first)
 
   argument : take k bs ≡ bytes_high_first (byte_count a.width) n
   argument =

@@ -18,52 +18,38 @@ use Rattle.cbor4ii_items.specs.{Lengths.RejectsLength, Moves.Moves, Shortest.Rej
 use Rattle.cbor4ii_items.specs.Strings.{break_format}
 use Rattle.cbor4ii_tree.specs.Laws.Initials.{initial_indefinite_map, initial_array, initial_map}
 use Rattle.cbor4ii_tree.specs.{Laws.Initials.initial_indefinite_array, Laws.Wholes.all_readable}
-use Rattle.cbor4ii_tree.specs.{Laws.Wholes.all_pairs_readable}
-use Rattle.cbor4ii_tree.specs.{Calls.CanonicalShape.CanonicalShapeAll}
-use Rattle.cbor4ii_tree.specs.{Calls.CanonicalShape.CanonicalShapePairs}
-use Rattle.cbor4ii_tree.specs.{Basis.Cost.{Budget, step_in}}
-use Rattle.cbor4ii_tree.specs.{Basis.Cost.{greatest_cost, greatest_pair_cost}}
-use Rattle.cbor4ii_tree.specs.{Inner.Does.{Accepting, Does}}
-use Rattle.cbor4ii_tree.specs.{Inner.Does.value_or_error}
-use Rattle.cbor4ii_tree.specs.{Basis.InputError.{array_name, map_name, mismatch}}
-use Rattle.cbor4ii_tree.specs.{Basis.InputError.{depth_overflow, eof, break_name, Small}}
-use Rattle.cbor4ii_tree.specs.{Basis.Item.sequence}
-use Rattle.cbor4ii_tree.specs.{Basis.Item.mapping, Laws.Binds.step_up}
-use Rattle.cbor4ii_tree.specs.{Basis.Meaning.{pair_values_of, values}}
+use Rattle.cbor4ii_tree.specs.Laws.Wholes.{all_pairs_readable}
+use Rattle.cbor4ii_tree.specs.Calls.CanonicalShape.{CanonicalShapeAll, CanonicalShapePairs}
+use Rattle.cbor4ii_tree.specs.Basis.Cost.{Budget, step_in, greatest_cost, greatest_pair_cost}
+use Rattle.cbor4ii_tree.specs.Inner.Does.{Accepting, Does, value_or_error}
+use Rattle.cbor4ii_tree.specs.Basis.InputError.{array_name, map_name, mismatch, depth_overflow, eof}
+use Rattle.cbor4ii_tree.specs.{Basis.InputError.{break_name, Small}, Basis.Item.{sequence, mapping}}
+use Rattle.cbor4ii_tree.specs.{Laws.Binds.step_up, Basis.Meaning.{pair_values_of, values}}
 use Rattle.cbor4ii_tree.specs.Calls.Rejections.{Rejection, Is, AtHead, RejectsAtStep}
-use Rattle.cbor4ii_tree.specs.Calls.Rejections.{RejectsInCount}
-use Rattle.cbor4ii_tree.specs.Calls.Rejections.{Each}
-use Rattle.cbor4ii_tree.specs.{Calls.Rejections.{EachPair, NoBreak}}
-use Rattle.cbor4ii_tree.specs.{Basis.Tree.{Tree, Trees, no_trees, Pairs}}
-use Rattle.cbor4ii_tree.specs.Basis.Tree.{no_pairs, pair, array, array_indefinite, map_of}
-use Rattle.cbor4ii_tree.specs.Basis.Tree.{map_indefinite}
-use Rattle.cbor4ii_tree.specs.Basis.Tree.{bytes, bytes_all, bytes_pairs, LooseAll, LoosePairs}
+use Rattle.cbor4ii_tree.specs.Calls.Rejections.{RejectsInCount, Each, EachPair, NoBreak}
+use Rattle.cbor4ii_tree.specs.Basis.Tree.{Tree, Trees, no_trees, Pairs, no_pairs, pair, array}
+use Rattle.cbor4ii_tree.specs.Basis.Tree.{array_indefinite, map_of, map_indefinite, bytes}
+use Rattle.cbor4ii_tree.specs.Basis.Tree.{bytes_all, bytes_pairs, LooseAll, LoosePairs}
 use Rattle.cbor4ii_tree.specs.Basis.Tree.{SoundStringsAll, SoundStringsPairs, count, pair_count}
-use Rattle.cbor4ii_tree.specs.Basis.Tree.{tree}
-use Rattle.cbor4ii_tree.specs.Calls.Asking.{HeadAt, IndefiniteAt}
-use Rattle.cbor4ii_tree.specs.Inner.Valuing.{Whole, ReadsOneValue}
-use Rattle.cbor4ii_tree.specs.Inner.Valuing.{RejectsOneValue}
-use Rattle.cbor4ii_tree.specs.Inner.Valuing.{RejectsUnder, TakesLength, ReadsItems}
-use Rattle.cbor4ii_tree.specs.Inner.Valuing.{RejectsItems, ReadsIndefiniteItems}
-use Rattle.cbor4ii_tree.specs.Inner.Valuing.{RejectsIndefiniteItems}
+use Rattle.cbor4ii_tree.specs.{Basis.Tree.tree, Calls.Asking.{HeadAt, IndefiniteAt}}
+use Rattle.cbor4ii_tree.specs.Inner.Valuing.{Whole, ReadsOneValue, RejectsOneValue, RejectsUnder}
+use Rattle.cbor4ii_tree.specs.Inner.Valuing.{TakesLength, ReadsItems, RejectsItems}
+use Rattle.cbor4ii_tree.specs.Inner.Valuing.{ReadsIndefiniteItems, RejectsIndefiniteItems}
 use Rattle.cbor4ii_tree.specs.Inner.Valuing.{RejectsPairsToBreak, ReadsValuePair, RejectsValuePair}
 use Rattle.cbor4ii_tree.specs.Inner.Valuing.{RejectsMajor, RejectsOf, flat_values, ReadsTwoStepsIn}
-use Rattle.cbor4ii_tree.specs.{Basis.View.{items_view, pairs_view}}
-use Rattle.cbor4ii_tree.specs.{declared.value.Value.{Value, Array}}
-use Rattle.cbor4ii_tree.specs.{declared.value.Value.Map, Calls.CanonicalRejects.AtShortest}
+use Rattle.cbor4ii_tree.specs.{Basis.View.{items_view, pairs_view}, declared.value.Value.Value}
+use Rattle.cbor4ii_tree.specs.{declared.value.Value.{Array, Map}, Calls.CanonicalRejects.AtShortest}
 use Rattle.cbor4ii_tree.specs.Calls.CanonicalRejects.{FitsCanonically}
-use Rattle.cbor4ii_tree.proofs.skip_calls.Doing.{Reached, reached_by, reached_then}
-use Rattle.cbor4ii_tree.proofs.skip_calls.Doing.{call_rejects, reached_as, reached_sound}
-use Rattle.cbor4ii_tree.proofs.skip_calls.Doing.{does_ok, does_no_step}
+use Rattle.cbor4ii_tree.proofs.skip_calls.Doing.{Reached, reached_by, reached_then, call_rejects}
+use Rattle.cbor4ii_tree.proofs.skip_calls.Doing.{reached_as, reached_sound, does_ok, does_no_step}
+use Rattle.cbor4ii_tree.proofs.skip_calls.Doing.{Before, broke, other, at_end}
 use Rattle.cbor4ii_tree.proofs.values.Calls.{indefinite_byte, head_cut, no_head, initial_of, whole}
-use Rattle.cbor4ii_tree.proofs.{values.Calls.{stops_under}, values.Encoding.view-Array}
+use Rattle.cbor4ii_tree.proofs.{values.Calls.stops_under, values.Encoding.view-Array}
 use Rattle.cbor4ii_tree.proofs.canonical.FitsCanonically.{all_exactly, all_pairs_exactly}
 use Rattle.cbor4ii_tree.proofs.parts.Rejecting.{in_items, in_pairs, headed_by}
 use Rattle.cbor4ii_tree.proofs.values.Heads.{at_row, at_major, first_is, head_at}
-use Rattle.cbor4ii_tree.proofs.values.HeadAt.{width_of_head}
-use Rattle.cbor4ii_tree.proofs.{values.Views.view-Map, values.LeafRuns.{ReadEach, none_read}}
-use Rattle.cbor4ii_tree.proofs.{values.LeafRuns.{join_items, one_item}, skip_calls.Calls.Before}
-use Rattle.cbor4ii_tree.proofs.skip_calls.Calls.{broke, other, at_end}
+use Rattle.cbor4ii_tree.proofs.{values.ByHead.width_of_head, values.Views.view-Map}
+use Rattle.cbor4ii_tree.proofs.values.LeafRuns.{ReadEach, none_read, join_items, one_item}
 
 -- ---- what they differ in
 
@@ -297,9 +283,6 @@ paired : (W : Tree → Type 0) (ms : List (Value × Value)) (ts : Trees) → Eac
     → (ps : Pairs) × (count ts ≡ 2 * pair_count ps) × EachPair W ps
     × (pair_values_of ps ≡ pairs_view ms) × (bytes_all ts ≡ bytes_pairs ps)
 paired W [] no_trees h e = (no_pairs, refl, tt, refl, refl)
-paired W [] (tree t ts) h e = cc
-paired W (m ∷ ms) no_trees h e = cc
-paired W (m ∷ ms) (tree k no_trees) h e = cc
 paired W (m ∷ ms) (tree k (tree v ts)) h e =
     let r = paired W ms ts h.1.1 (cc) in (
       pair k v r.0,
@@ -308,6 +291,7 @@ paired W (m ∷ ms) (tree k (tree v ts)) h e =
       cc r.3,
       ap (λ z. bytes k ++ (bytes v ++ z)) r.4,
     )
+paired W _ _ h e = cc
 
 pub reads : (keyed canonical : Bool) (deep : Budget) (n : ℕ) (v : Vec (Element keyed) Global)
     (xs ys zs : List ℕ) → HeadAt canonical (major_of keyed) n xs ys

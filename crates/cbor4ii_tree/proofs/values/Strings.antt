@@ -5,46 +5,41 @@ use Rattle.std.proofs.Common.{length, drop, take, Some, None, Bool, true, false,
 use Rattle.std.proofs.Common.{◌∙◌, subst, arith, append_assoc, length-append, take-append-drop, inl}
 use Rattle.std.proofs.Common.{inr, rules, cond, IsUtf8, eqb, eqb-true, eq-eqb, get_or, string_bytes}
 use Rattle.std.proofs.Common.{Vec, Global, String}
-use Rattle.std.specs.Int.{bytes_high_first}
 use Rattle.cbor4ii_items.specs.{Laws.Answering.fits_zero, Laws.Heads.rest_after_head}
 use Rattle.cbor4ii_items.specs.{Laws.Heads.length-bytes_high_first, Laws.Prefixes.drop_more}
-use Rattle.cbor4ii_items.specs.{Budget.CostFits, Head.{Width, byte_count, head, indefinite_head}}
-use Rattle.cbor4ii_items.specs.{Head.break, Heads.{RejectsHead, Begins, CutHead}, Initial.Initial}
-use Rattle.cbor4ii_items.specs.Initial.{Info, wide, indefinite_ended, reserved, info_of, initial}
-use Rattle.cbor4ii_items.specs.Initial.{by_major, int_by_info, string_by_info, array_by_info}
-use Rattle.cbor4ii_items.specs.Initial.{map_by_info, tag_by_info, simple_by_info, unsigned}
-use Rattle.cbor4ii_items.specs.Initial.{negative, Sign, Kind, byte_string, text_string, kind_major}
-use Rattle.cbor4ii_items.specs.Initial.{Simple, Precision, starts_string, starts_chunks, bad_string}
-use Rattle.cbor4ii_items.specs.Initial.{starts_simple, starts_bits, other_simple, simple_false}
-use Rattle.cbor4ii_items.specs.Initial.{simple_true, simple_null, simple_undefined, half, single}
-use Rattle.cbor4ii_items.specs.{Initial.double, InputError.InputError, Strings.ReadsDefiniteString}
-use Rattle.cbor4ii_items.specs.Strings.{ReadsChunks, chunk_cost, ReadsString, CutContent}
-use Rattle.cbor4ii_items.specs.Strings.{RejectsChunk, no_chunk_byte, no_step, chunk_indefinite}
-use Rattle.cbor4ii_items.specs.Strings.{chunk_rejected, chunk_cut, RejectsString}
+use Rattle.cbor4ii_items.specs.{Budget.CostFits, Head.{Width, head, indefinite_head, break}}
+use Rattle.cbor4ii_items.specs.{Head.byte_count, Heads.{RejectsHead, Begins, CutHead}}
+use Rattle.cbor4ii_items.specs.Initial.{Initial, Info, wide, indefinite_ended, reserved, info_of}
+use Rattle.cbor4ii_items.specs.Initial.{initial, by_major, int_by_info, string_by_info}
+use Rattle.cbor4ii_items.specs.Initial.{array_by_info, map_by_info, tag_by_info, simple_by_info}
+use Rattle.cbor4ii_items.specs.Initial.{unsigned, negative, Sign, Kind, byte_string, text_string}
+use Rattle.cbor4ii_items.specs.Initial.{kind_major, Simple, Precision, starts_string, starts_chunks}
+use Rattle.cbor4ii_items.specs.Initial.{bad_string, starts_simple, starts_bits, other_simple}
+use Rattle.cbor4ii_items.specs.Initial.{simple_false, simple_true, simple_null, simple_undefined}
+use Rattle.cbor4ii_items.specs.{Initial.{half, single, double}, InputError.InputError}
+use Rattle.cbor4ii_items.specs.Strings.{ReadsDefiniteString, ReadsChunks, chunk_cost, ReadsString}
+use Rattle.cbor4ii_items.specs.Strings.{CutContent, RejectsChunk, no_chunk_byte, no_step}
+use Rattle.cbor4ii_items.specs.Strings.{chunk_indefinite, chunk_rejected, chunk_cut, RejectsString}
 use Rattle.cbor4ii_items.specs.Strings.{string_head_rejected, string_cut, string_indefinite}
 use Rattle.cbor4ii_items.specs.Strings.{RejectsText, no_string, no_utf8}
-use Rattle.cbor4ii_tree.specs.{Basis.Cost.{Budget, step_in, chunks_cost}}
-use Rattle.cbor4ii_tree.specs.{Basis.InputError.{eof, mismatch}}
-use Rattle.cbor4ii_tree.specs.Basis.InputError.{require_length, require_utf8, Indefinite, len_of}
-use Rattle.cbor4ii_tree.specs.{Basis.InputError.kind_name, Basis.Item.{bytes_item, text}}
-use Rattle.cbor4ii_tree.specs.{Laws.Binds.step_up}
-use Rattle.cbor4ii_tree.specs.Laws.Initials.{initial_string, initial_chunks, head_below, kind_below}
-use Rattle.cbor4ii_tree.specs.{Basis.Meaning.{value, content_item}, Calls.ReadingRejects.Readable}
+use Rattle.cbor4ii_tree.specs.{Basis.Cost.{Budget, step_in, chunks_cost}, Basis.InputError.eof}
+use Rattle.cbor4ii_tree.specs.Basis.InputError.{mismatch, require_length, require_utf8, Indefinite}
+use Rattle.cbor4ii_tree.specs.{Basis.InputError.{len_of, kind_name}, Basis.Item.{bytes_item, text}}
+use Rattle.cbor4ii_tree.specs.{Laws.Binds.step_up, Laws.Initials.{initial_string, initial_chunks}}
+use Rattle.cbor4ii_tree.specs.{Laws.Initials.{head_below, kind_below}, Basis.Meaning.value}
+use Rattle.cbor4ii_tree.specs.{Basis.Meaning.content_item, Calls.ReadingRejects.Readable}
 use Rattle.cbor4ii_tree.specs.Calls.ReadingRejects.{ReadableChunk, CutString, ChunkRejectsBy}
 use Rattle.cbor4ii_tree.specs.Calls.ReadingRejects.{ChunkRejects, ReadingRejectsBy, ReadingRejects}
-use Rattle.cbor4ii_tree.specs.{Calls.Rejections.{Is, RejectsAtStep, Each, NoBreak}}
-use Rattle.cbor4ii_tree.specs.{Basis.Tree.{Tree, Trees}}
-use Rattle.cbor4ii_tree.specs.Basis.Tree.{no_trees, tree, string, chunked, bytes, bytes_all}
-use Rattle.cbor4ii_tree.specs.Basis.Tree.{LooseAll}
-use Rattle.cbor4ii_tree.specs.{Basis.Tree.{AreChunks, joined_chunks, TextIsUtf8}}
-use Rattle.cbor4ii_tree.specs.{Inner.Valuing.ReadsUnder}
-use Rattle.cbor4ii_tree.specs.{Inner.Valuing.RejectsUnder, Basis.View.view}
-use Rattle.cbor4ii_tree.specs.{declared.value.Value.{Bytes, Text}}
-use Rattle.cbor4ii_tree.specs.declared.value.Value.{the_lemmas}
+use Rattle.cbor4ii_tree.specs.{Calls.Rejections.{Is, RejectsAtStep, Each, NoBreak}, Basis.Tree.Tree}
+use Rattle.cbor4ii_tree.specs.Basis.Tree.{Trees, no_trees, tree, string, chunked, bytes, bytes_all}
+use Rattle.cbor4ii_tree.specs.Basis.Tree.{LooseAll, AreChunks, joined_chunks, TextIsUtf8}
+use Rattle.cbor4ii_tree.specs.{Inner.Valuing.{ReadsUnder, RejectsUnder}, Basis.View.view}
+use Rattle.cbor4ii_tree.specs.declared.value.Value.{Bytes, Text, the_lemmas}
 use Rattle.cbor4ii_tree.proofs.{parts.Rejecting.{headed_by, in_items}, values.Calls.head_cut}
 use Rattle.cbor4ii_tree.proofs.values.Calls.{no_head, initial_of, width_begins, small_count}
 use Rattle.cbor4ii_tree.proofs.{values.Calls.indefinite_byte, values.Heads.{at_row, first_is}}
 use Rattle.cbor4ii_tree.proofs.encodings.CanonicalShape.{first_byte}
+use Rattle.std.specs.Int.{bytes_high_first}
 use Rattle.cbor4ii_items.specs.Strings as strings
 
 -- ---- strings of definite length
@@ -277,14 +272,13 @@ module _ (c : ℕ) (cs : List ℕ) (e : InputError) (rest : List ℕ) where
       → ChunkRejectsBy k (by_major j i) c cs e rest
   other_major k zero i ne h = int_row k unsigned (info_of i) h
   other_major k (suc zero) i ne h = int_row k negative (info_of i) h
-  other_major byte_string (suc (suc zero)) i ne h = absurd (ne refl)
   other_major text_string (suc (suc zero)) i ne h = bytes_row (info_of i) h
   other_major byte_string (suc (suc (suc zero))) i ne h = text_row (info_of i) h
-  other_major text_string (suc (suc (suc zero))) i ne h = absurd (ne refl)
   other_major k (suc (suc (suc (suc zero)))) i ne h = array_row k (info_of i) h
   other_major k (suc (suc (suc (suc (suc zero))))) i ne h = map_row k (info_of i) h
   other_major k (suc (suc (suc (suc (suc (suc zero)))))) i ne h = tag_row k (info_of i) h
   other_major k (suc (suc (suc (suc (suc (suc (suc j))))))) i ne h = other_row k i h
+  other_major _ _ i ne h = absurd (ne refl)
 
   bad_row : (k : Kind) → Is (mismatch (kind_name k) c) cs e rest
       → ChunkRejectsBy k (bad_string k) c cs e rest

@@ -4,10 +4,8 @@ use Rattle.std.proofs.Common.{◌+◌, refl, sym, ap, ◌∙◌, arith, ◌↔�
 use Rattle.std.proofs.lemmas.List.{take_more, get_or_default}
 use Rattle.std.specs.Prelude.{Vec}
 use Rattle.cbor4ii_tree.specs.Basis.Item.{item_count, item_pair_count, mapping, ItemPairs, no_items}
-use Rattle.cbor4ii_tree.specs.Basis.Item.{item}
-use Rattle.cbor4ii_tree.specs.{Basis.View.{view, items_view, pairs_view}}
-use Rattle.cbor4ii_tree.specs.{declared.value.Value.Value}
-use Rattle.cbor4ii_tree.specs.declared.value.Value.{Map, the_lemmas}
+use Rattle.cbor4ii_tree.specs.{Basis.Item.item, Basis.View.{view, items_view, pairs_view}}
+use Rattle.cbor4ii_tree.specs.declared.value.Value.{Value, Map, the_lemmas}
 
 pub item_count-items_view : (vs : List Value) → item_count (items_view vs) ≡ length vs
 item_count-items_view [] = refl
@@ -34,16 +32,14 @@ view-Map v = search (rules, the_lemmas)
 pub view_at : (vs ws : List Value) (i : ℕ) (d e : Value) → items_view vs ≡ items_view ws
     → i < length vs → view (get_or vs i d) ≡ view (get_or ws i e)
 view_at [] ws i d e h lt = absurd (omega arith)
-view_at (v ∷ vs) [] i d e h lt = cc
-view_at (v ∷ vs) (w ∷ ws) zero d e h lt = cc
 view_at (v ∷ vs) (w ∷ ws) (suc i) d e h lt = view_at vs ws i d e (cc) (omega arith)
+view_at (v ∷ vs) _ _ d e h lt = cc
 
 pub items_view-push : (vs ws : List Value) (v w : Value) → items_view vs ≡ items_view ws
     → view v ≡ view w → items_view (vs ++ v ∷ []) ≡ items_view (ws ++ w ∷ [])
 items_view-push [] [] v w h e = ap (λ x. item x no_items) e
-items_view-push [] (x ∷ ws) v w h e = cc
-items_view-push (x ∷ vs) [] v w h e = cc
 items_view-push (x ∷ vs) (y ∷ ws) v w h e = cc (items_view-push vs ws v w (cc) e)
+items_view-push _ _ v w h e = cc
 
 pub views_at : (ms ns : List (Value × Value)) (i : ℕ) (d e : Value × Value)
     → pairs_view ms ≡ pairs_view ns → i < length ms

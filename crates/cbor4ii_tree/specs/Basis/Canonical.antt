@@ -4,19 +4,16 @@
 -- section 4.2.
 use Rattle.std.specs.Prelude.{ℕ, ◌^◌, List, length, Bool, true, false, nat_lt, if◌then◌else◌, pos}
 use Rattle.std.specs.Prelude.{negsuc}
-use Rattle.cbor4ii_items.specs.Head.{shortest_width}
-pub use Rattle.cbor4ii_items.specs.Magnitude.{without_leading_zeros, magnitude}
-use Rattle.cbor4ii_items.specs.Initial.{unsigned, negative, Sign, byte_string, text_string}
-use Rattle.cbor4ii_items.specs.Initial.{simple_false, simple_true, simple_null, Simple}
+use Rattle.cbor4ii_items.specs.{Head.shortest_width, Initial.{unsigned, negative, Sign}}
+use Rattle.cbor4ii_items.specs.Initial.{byte_string, text_string, simple_false, simple_true}
+use Rattle.cbor4ii_items.specs.Initial.{simple_null, Simple}
 use Rattle.cbor4ii_tree.specs.Basis.Tree.{Tree, int, string, array, map_of, tagged, simple, bits}
-use Rattle.cbor4ii_tree.specs.Basis.Tree.{Trees}
-use Rattle.cbor4ii_tree.specs.Basis.Tree.{no_trees, tree, Pairs, no_pairs, pair, bytes}
-use Rattle.cbor4ii_tree.specs.Basis.Cost.{cost}
-use Rattle.cbor4ii_tree.specs.Basis.Item.{Item, null, boolean, integer, float, bytes_item, text}
-use Rattle.cbor4ii_tree.specs.Basis.Item.{sequence}
-use Rattle.cbor4ii_tree.specs.Basis.Item.{mapping, tag, Items, no_items, item, item_count}
-use Rattle.cbor4ii_tree.specs.Basis.Item.{ItemPairs}
-use Rattle.cbor4ii_tree.specs.Basis.Item.{no_item_pairs, item_pair, item_pair_count}
+use Rattle.cbor4ii_tree.specs.Basis.Tree.{Trees, no_trees, tree, Pairs, no_pairs, pair, bytes}
+use Rattle.cbor4ii_tree.specs.{Basis.Cost.cost, Basis.Item.{Item, null, boolean, integer, float}}
+use Rattle.cbor4ii_tree.specs.Basis.Item.{bytes_item, text, sequence, mapping, tag, Items, no_items}
+use Rattle.cbor4ii_tree.specs.Basis.Item.{item, item_count, ItemPairs, no_item_pairs, item_pair}
+use Rattle.cbor4ii_tree.specs.Basis.Item.{item_pair_count}
+pub use Rattle.cbor4ii_items.specs.Magnitude.{without_leading_zeros, magnitude}
 
 abbrev pub sign_tag : Sign → ℕ
 sign_tag unsigned = 2

@@ -1,11 +1,8 @@
 -- Steps: what a budget bounds, so that hostile nesting ends (RFC 8949 section 10).
 use Rattle.std.specs.Prelude.{ℕ, zero, suc, ◌+◌, max, Option, Some, None}
 use Rattle.cbor4ii_tree.specs.Basis.Tree.{Tree, int, string, chunked, array, array_indefinite}
-use Rattle.cbor4ii_tree.specs.Basis.Tree.{map_of}
-use Rattle.cbor4ii_tree.specs.Basis.Tree.{map_indefinite}
-use Rattle.cbor4ii_tree.specs.Basis.Tree.{tagged, simple, bits, Trees, no_trees, tree, Pairs}
-use Rattle.cbor4ii_tree.specs.Basis.Tree.{no_pairs}
-use Rattle.cbor4ii_tree.specs.Basis.Tree.{pair}
+use Rattle.cbor4ii_tree.specs.Basis.Tree.{map_of, map_indefinite, tagged, simple, bits, Trees}
+use Rattle.cbor4ii_tree.specs.Basis.Tree.{no_trees, tree, Pairs, no_pairs, pair}
 
 -- how many steps are left; None: as many as it takes
 abbrev pub Budget : Type 0

@@ -1,11 +1,8 @@
 -- Encodings of a value, and what it is for an input to begin with an item.
 use Rattle.std.specs.Prelude.{◌≡◌, ◌≢◌, ℕ, List, [], ◌++◌, ◌⊎◌}
-use Rattle.cbor4ii_tree.specs.Basis.Tree.{Tree, bytes, Loose, Plain}
-use Rattle.cbor4ii_tree.specs.Basis.Item.{Item}
-use Rattle.cbor4ii_tree.specs.Basis.Meaning.{value}
+use Rattle.cbor4ii_tree.specs.Basis.{Tree.{Tree, bytes, Loose, Plain}, Item.Item, Meaning.value}
+use Rattle.cbor4ii_tree.specs.Basis.{Cost.{cost, skip_cost, Budget}, InputError.InputError}
 use Rattle.cbor4ii_items.specs.Budget.{CostFits}
-use Rattle.cbor4ii_tree.specs.Basis.Cost.{cost, skip_cost, Budget}
-use Rattle.cbor4ii_tree.specs.Basis.InputError.{InputError}
 
 -- The text is an encoding of the value, which takes so many steps to read.
 pub record Encodes (encoding : List ℕ) (v : Item) (steps : ℕ) : Type 0 where

@@ -3,18 +3,13 @@
 use Rattle.std.specs.Prelude.{◌≡◌, ◌≤◌, ℕ, List, [], ◌++◌, Some, Result, Ok, Err, IfOk, IfSome}
 use Rattle.std.specs.Prelude.{length}
 use Rattle.cbor4ii_rw.specs.View.{View, IfKnown}
-use Rattle.cbor4ii_rw.specs.declared.error.DecodeError.{DecodeError}
-use Rattle.cbor4ii_rw.specs.declared.error.WholeError.{WholeError}
+use Rattle.cbor4ii_rw.specs.declared.error.{DecodeError.DecodeError, WholeError.WholeError}
 use Rattle.cbor4ii_rw.specs.declared.error.WholeError.TheVariants.{Decode, Trailing}
-use Rattle.cbor4ii_items.specs.Budget.{CostFits}
-use Rattle.cbor4ii_items.specs.InputError.{input_error_of}
-use Rattle.cbor4ii_tree.specs.Basis.Tree.{Tree, bytes, Loose, Joins}
-use Rattle.cbor4ii_tree.specs.Basis.Item.{Item}
-use Rattle.cbor4ii_tree.specs.Basis.Cost.{Budget}
+use Rattle.cbor4ii_items.specs.{Budget.CostFits, InputError.input_error_of}
+use Rattle.cbor4ii_tree.specs.Basis.{Tree.{Tree, bytes, Loose, Joins}, Item.Item, Cost.Budget}
 use Rattle.cbor4ii_tree.specs.Basis.Canonical.{canonical_encoding, canonical_cost, with_bignums}
-use Rattle.cbor4ii_tree.specs.Basis.InputError.{InputError, IsEof}
-use Rattle.cbor4ii_tree.specs.Basis.Encodings.{Encodes, DecodesTo, Skips, IsProperPrefix}
-use Rattle.cbor4ii_tree.specs.Basis.View.{view}
+use Rattle.cbor4ii_tree.specs.Basis.{InputError.{InputError, IsEof}, Encodings.{Encodes, DecodesTo}}
+use Rattle.cbor4ii_tree.specs.Basis.{Encodings.{Skips, IsProperPrefix}, View.view}
 use Rattle.cbor4ii_tree.specs.declared.value.Value.{Value}
 
 -- what an answer says of the bytes: a failure of the reader and a want of memory say nothing

@@ -4,16 +4,11 @@ use Rattle.cbor4ii_items.specs.Initial.{Sign, unsigned, negative, Kind, byte_str
 use Rattle.cbor4ii_items.specs.Initial.{Simple, simple_false, simple_true, simple_null}
 use Rattle.cbor4ii_items.specs.Initial.{simple_undefined}
 use Rattle.cbor4ii_tree.specs.Basis.Tree.{Tree, int, string, chunked, array, array_indefinite}
-use Rattle.cbor4ii_tree.specs.Basis.Tree.{map_of}
-use Rattle.cbor4ii_tree.specs.Basis.Tree.{map_indefinite}
-use Rattle.cbor4ii_tree.specs.Basis.Tree.{tagged, simple, bits, Trees, no_trees, tree, Pairs}
-use Rattle.cbor4ii_tree.specs.Basis.Tree.{no_pairs}
-use Rattle.cbor4ii_tree.specs.Basis.Tree.{pair, joined_chunks}
+use Rattle.cbor4ii_tree.specs.Basis.Tree.{map_of, map_indefinite, tagged, simple, bits, Trees}
+use Rattle.cbor4ii_tree.specs.Basis.Tree.{no_trees, tree, Pairs, no_pairs, pair, joined_chunks}
 use Rattle.cbor4ii_tree.specs.Basis.Item.{Item, null, boolean, integer, float, bytes_item, text}
-use Rattle.cbor4ii_tree.specs.Basis.Item.{sequence}
-use Rattle.cbor4ii_tree.specs.Basis.Item.{mapping, tag, Items, no_items, item, ItemPairs}
-use Rattle.cbor4ii_tree.specs.Basis.Item.{no_item_pairs}
-use Rattle.cbor4ii_tree.specs.Basis.Item.{item_pair}
+use Rattle.cbor4ii_tree.specs.Basis.Item.{sequence, mapping, tag, Items, no_items, item, ItemPairs}
+use Rattle.cbor4ii_tree.specs.Basis.Item.{no_item_pairs, item_pair}
 
 -- the integer n, or -1 - n (section 3.1, major types 0 and 1)
 abbrev pub number : Sign → ℕ → ℤ

@@ -2,13 +2,10 @@
 use Rattle.std.specs.Prelude.{List, [], ◌∷◌, map, string_bytes}
 use Rattle.cbor4ii_items.specs.Initial.{half, single, double}
 use Rattle.cbor4ii_tree.specs.Basis.Item.{Item, null, boolean, integer, float, bytes_item, text}
-use Rattle.cbor4ii_tree.specs.Basis.Item.{sequence}
-use Rattle.cbor4ii_tree.specs.Basis.Item.{mapping, tag, Items, no_items, item, ItemPairs}
-use Rattle.cbor4ii_tree.specs.Basis.Item.{no_item_pairs}
-use Rattle.cbor4ii_tree.specs.Basis.Item.{item_pair}
-use Rattle.cbor4ii_tree.specs.declared.value.FloatBits.{FloatBits}
+use Rattle.cbor4ii_tree.specs.Basis.Item.{sequence, mapping, tag, Items, no_items, item, ItemPairs}
+use Rattle.cbor4ii_tree.specs.Basis.Item.{no_item_pairs, item_pair}
+use Rattle.cbor4ii_tree.specs.declared.value.{FloatBits.FloatBits, Value.{Value, fold-Value}}
 use Rattle.cbor4ii_tree.specs.declared.value.FloatBits.TheVariants.{F16, F32, F64}
-use Rattle.cbor4ii_tree.specs.declared.value.Value.{Value, fold-Value}
 use Rattle.cbor4ii_tree.specs.declared.value.Value.TheOpen.{Value-F}
 
 abbrev pub items_of : List Item → Items

@@ -1,10 +1,8 @@
 -- What a value is looked into for: what it holds, and the pairs of a map by their keys.
-use Rattle.std.specs.Prelude.{◌≡◌, ◌≤◌, ℕ, ℤ, List, Bool, Option, Some, None, if◌then◌else◌}
-use Rattle.std.specs.Prelude.{◌⊎◌}
+use Rattle.std.specs.Prelude.{◌≡◌, ◌≤◌, ℕ, ℤ, List, Bool, Option, Some, None, if◌then◌else◌, ◌⊎◌}
 use Rattle.cbor4ii_tree.specs.Basis.Item.{Item, boolean, integer, float, bytes_item, text, sequence}
 use Rattle.cbor4ii_tree.specs.Basis.Item.{mapping, tag, Items, no_items, item, ItemPairs}
-use Rattle.cbor4ii_tree.specs.Basis.Item.{no_item_pairs}
-use Rattle.cbor4ii_tree.specs.Basis.Item.{item_pair, item_pair_count}
+use Rattle.cbor4ii_tree.specs.Basis.Item.{no_item_pairs, item_pair, item_pair_count}
 use Rattle.cbor4ii_tree.specs.Calls.ItemEquality.{item_eq}
 
 -- the truth value of a boolean alone

@@ -2,16 +2,13 @@
 -- a tag, and for the places of the items of an array or of the keys and values of a map.
 use Rattle.std.specs.Prelude.{◌≡◌, ◌≤◌, ◌/◌, ◌⊎◌, ℕ, List, ◌∷◌, ◌++◌, Option, Some, None, Bool}
 use Rattle.std.specs.Prelude.{true, false, IfErr, IsTrue, Result}
-use Rattle.cbor4ii_rw.specs.View.{IfKnown, View}
-use Rattle.cbor4ii_rw.specs.declared.error.DecodeError.{DecodeError}
+use Rattle.cbor4ii_rw.specs.{View.{IfKnown, View}, declared.error.DecodeError.DecodeError}
 use Rattle.cbor4ii_rw.specs.declared.error.WholeError.{WholeError}
 use Rattle.cbor4ii_items.specs.Head.{Width, HeadFits, head, indefinite_head}
-use Rattle.cbor4ii_items.specs.InputError.{is_out_of_memory}
-use Rattle.cbor4ii_items.specs.Whole.{IfDecode}
+use Rattle.cbor4ii_items.specs.{InputError.is_out_of_memory, Whole.IfDecode}
 use Rattle.cbor4ii_tree.specs.Basis.Tree.{Tree, Trees, Plain, count, bytes_all}
 use Rattle.cbor4ii_tree.specs.Calls.CanonicalRejects.{ShortestAt}
-use Rattle.cbor4ii_tree.specs.Calls.CanonicalShape.{CanonicalShape}
-use Rattle.cbor4ii_tree.specs.Calls.Rejections.{Each}
+use Rattle.cbor4ii_tree.specs.{Calls.CanonicalShape.CanonicalShape, Calls.Rejections.Each}
 
 -- ---- heads
 

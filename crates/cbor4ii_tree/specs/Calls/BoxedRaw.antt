@@ -8,8 +8,7 @@ use Rattle.cbor4ii_items.specs.InputError.{is_out_of_memory}
 use Rattle.cbor4ii_tree.specs.{declared.boxed_raw.BoxedRawValue.BoxedRawValue, Basis.Tree.Tree}
 use Rattle.cbor4ii_tree.specs.{Basis.Cost.Budget, Basis.InputError.{InputError, require_borrowed}}
 use Rattle.cbor4ii_tree.specs.{Basis.Encodings.Skips, Calls.SkippingRejects.SkippingRejects}
-use Rattle.cbor4ii_tree.specs.{Calls.Raw.raw_format}
-use Rattle.cbor4ii_tree.specs.Calls.Raw.{Unmoved, RejectsOnPrefix, raw_value, TakesItem}
+use Rattle.cbor4ii_tree.specs.Calls.Raw.{raw_format, Unmoved, RejectsOnPrefix, raw_value, TakesItem}
 use Rattle.cbor4ii_tree.specs.Calls.Raw.{RejectsAsSkipping, Captured, NotCaptured}
 
 -- the bytes of a kept item, in memory of its own

@@ -2,23 +2,17 @@
 -- first byte. Each head is to be the shortest (section 4.1), each length given, and null `f6`.
 use Rattle.std.specs.Prelude.{◌≡◌, ℕ, zero, suc, ◌*◌, ◌/◌, ◌^◌, ◌<◌, List, [], ◌∷◌, ◌++◌, length}
 use Rattle.std.specs.Prelude.{◌⊎◌}
-use Rattle.cbor4ii_items.specs.Head.{head, shortest_width}
-use Rattle.cbor4ii_items.specs.InputError.{not_canonical}
+use Rattle.cbor4ii_items.specs.{Head.{head, shortest_width}, InputError.not_canonical}
 use Rattle.cbor4ii_items.specs.Shortest.{canonical_name, RejectsShortest, RejectsShortestString}
-use Rattle.cbor4ii_items.specs.Budget.{CostFits}
-use Rattle.cbor4ii_items.specs.Initial.{unsigned, negative, byte_string, text_string}
-use Rattle.cbor4ii_items.specs.Initial.{simple_undefined, precision_bytes, Initial, starts_simple}
-use Rattle.cbor4ii_items.specs.Initial.{starts_bits, other_simple, initial}
-use Rattle.cbor4ii_tree.specs.Basis.Tree.{Tree}
-use Rattle.cbor4ii_tree.specs.Basis.Cost.{Budget, step_in, cost}
+use Rattle.cbor4ii_items.specs.{Budget.CostFits, Initial.{unsigned, negative, byte_string}}
+use Rattle.cbor4ii_items.specs.Initial.{text_string, simple_undefined, precision_bytes, Initial}
+use Rattle.cbor4ii_items.specs.Initial.{starts_simple, starts_bits, other_simple, initial}
+use Rattle.cbor4ii_tree.specs.{Basis.Tree.Tree, Basis.Cost.{Budget, step_in, cost}}
 use Rattle.cbor4ii_tree.specs.Basis.InputError.{InputError, eof, unsupported, Small, sign_name}
-use Rattle.cbor4ii_tree.specs.Basis.InputError.{kind_name}
-use Rattle.cbor4ii_tree.specs.Basis.InputError.{precision_name, array_name, map_name, tag_name}
-use Rattle.cbor4ii_tree.specs.Basis.InputError.{value_name}
-use Rattle.cbor4ii_tree.specs.Calls.Rejections.{Rejection, Is, MissingAll, RejectsAtStep}
-use Rattle.cbor4ii_tree.specs.Calls.Rejections.{RejectsInCount}
-use Rattle.cbor4ii_tree.specs.Calls.ReadingRejects.{NoUtf8}
-use Rattle.cbor4ii_tree.specs.Calls.CanonicalShape.{CanonicalTree}
+use Rattle.cbor4ii_tree.specs.Basis.InputError.{kind_name, precision_name, array_name, map_name}
+use Rattle.cbor4ii_tree.specs.{Basis.InputError.{tag_name, value_name}, Calls.Rejections.Rejection}
+use Rattle.cbor4ii_tree.specs.Calls.Rejections.{Is, MissingAll, RejectsAtStep, RejectsInCount}
+use Rattle.cbor4ii_tree.specs.{Calls.ReadingRejects.NoUtf8, Calls.CanonicalShape.CanonicalTree}
 
 -- a canonical tree that fits
 abbrev pub FitsCanonically : Budget → Tree → Type 0

@@ -2,19 +2,12 @@
 -- no string in chunks, no array or map without a length, and null only as null. A canonical tree is
 -- plain and has this shape.
 use Rattle.std.specs.Prelude.{◌≡◌, ◌≢◌, ℕ, List, ◌++◌, length}
-use Rattle.cbor4ii_items.specs.Head.{shortest_width}
-use Rattle.cbor4ii_items.specs.Initial.{simple_undefined}
-use Rattle.cbor4ii_items.specs.Budget.{CostFits}
+use Rattle.cbor4ii_items.specs.{Head.shortest_width, Initial.simple_undefined, Budget.CostFits}
 use Rattle.cbor4ii_tree.specs.Basis.Tree.{Tree, int, string, chunked, array, array_indefinite}
-use Rattle.cbor4ii_tree.specs.Basis.Tree.{map_of}
-use Rattle.cbor4ii_tree.specs.Basis.Tree.{map_indefinite}
-use Rattle.cbor4ii_tree.specs.Basis.Tree.{tagged, simple, bits, Trees, no_trees, tree, Pairs}
-use Rattle.cbor4ii_tree.specs.Basis.Tree.{no_pairs}
-use Rattle.cbor4ii_tree.specs.Basis.Tree.{pair, count, pair_count, bytes, Plain}
-use Rattle.cbor4ii_tree.specs.Basis.Item.{Item, IsItem}
-use Rattle.cbor4ii_tree.specs.Basis.Meaning.{value}
-use Rattle.cbor4ii_tree.specs.Basis.Cost.{cost, Budget}
-use Rattle.cbor4ii_tree.specs.Basis.Canonical.{with_bignums}
+use Rattle.cbor4ii_tree.specs.Basis.Tree.{map_of, map_indefinite, tagged, simple, bits, Trees}
+use Rattle.cbor4ii_tree.specs.Basis.Tree.{no_trees, tree, Pairs, no_pairs, pair, count, pair_count}
+use Rattle.cbor4ii_tree.specs.Basis.{Tree.{bytes, Plain}, Item.{Item, IsItem}, Meaning.value}
+use Rattle.cbor4ii_tree.specs.Basis.{Cost.{cost, Budget}, Canonical.with_bignums}
 
 abbrev mutual
   pub CanonicalShape : Tree → Type 0

@@ -1,22 +1,17 @@
 -- What reading a value from its canonical encoding promises of the bytes that the reader reports.
 use Rattle.std.specs.Prelude.{◌≡◌, ◌≤◌, ℕ, List, ◌++◌, length, take, Some, Result, IfOk, ◌⊎◌}
-use Rattle.cbor4ii_rw.specs.View.{View, IfKnown}
-use Rattle.cbor4ii_rw.specs.declared.error.DecodeError.{DecodeError}
-use Rattle.cbor4ii_items.specs.Decoding.{Reads as ReadsOf, Format}
-use Rattle.cbor4ii_items.specs.Budget.{CostFits}
-use Rattle.cbor4ii_items.specs.Decoding.{leaf_format, format_by, taking_memory}
-use Rattle.cbor4ii_items.specs.InputError.{InputError, not_canonical}
-use Rattle.cbor4ii_tree.specs.Basis.Item.{Item}
-use Rattle.cbor4ii_tree.specs.Basis.Cost.{Budget}
+use Rattle.cbor4ii_rw.specs.{View.{View, IfKnown}, declared.error.DecodeError.DecodeError}
+use Rattle.cbor4ii_items.specs.Decoding.{Reads as ReadsOf, Format, leaf_format, format_by}
+use Rattle.cbor4ii_items.specs.{Decoding.taking_memory, Budget.CostFits, InputError.InputError}
+use Rattle.cbor4ii_items.specs.InputError.{not_canonical}
+use Rattle.cbor4ii_tree.specs.{Basis.Item.Item, Basis.Cost.Budget}
 use Rattle.cbor4ii_tree.specs.Basis.Canonical.{canonical_encoding, canonical_cost}
 use Rattle.cbor4ii_tree.specs.Basis.InputError.{IsEof, IsDepthOverflow, IsFinal, MayReject}
-use Rattle.cbor4ii_tree.specs.Basis.Encodings.{IsProperPrefix}
-use Rattle.cbor4ii_tree.specs.Calls.CanonicalShape.{IsDecoded, EncodesCanonically}
-use Rattle.cbor4ii_tree.specs.Calls.CanonicalShape.{DecodesCanonically}
+use Rattle.cbor4ii_tree.specs.{Basis.Encodings.IsProperPrefix, Calls.CanonicalShape.IsDecoded}
+use Rattle.cbor4ii_tree.specs.Calls.CanonicalShape.{EncodesCanonically, DecodesCanonically}
 use Rattle.cbor4ii_tree.specs.Calls.ReadingRejects.{ReadingRejects}
-use Rattle.cbor4ii_tree.specs.Calls.CanonicalRejects.{CanonicalRejects}
-use Rattle.cbor4ii_tree.specs.Basis.Headline.{Answered, Rejected}
-use Rattle.cbor4ii_tree.specs.Basis.View.{view}
+use Rattle.cbor4ii_tree.specs.{Calls.CanonicalRejects.CanonicalRejects, Basis.Headline.Answered}
+use Rattle.cbor4ii_tree.specs.{Basis.Headline.Rejected, Basis.View.view}
 use Rattle.cbor4ii_tree.specs.declared.decode_canonical.Canonical.{Canonical}
 
 -- the first n bytes are the canonical encoding of the value, in c steps

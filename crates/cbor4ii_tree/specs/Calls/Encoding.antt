@@ -1,8 +1,7 @@
 -- What values are written as.
 use Rattle.std.specs.Prelude.{ℕ, List}
 use Rattle.cbor4ii_items.specs.SequenceBytes.{pair_bytes}
-use Rattle.cbor4ii_tree.specs.Basis.Canonical.{canonical_encoding}
-use Rattle.cbor4ii_tree.specs.Basis.View.{view}
+use Rattle.cbor4ii_tree.specs.{Basis.Canonical.canonical_encoding, Basis.View.view}
 use Rattle.cbor4ii_tree.specs.declared.value.Value.{Value}
 
 -- the canonical encoding of a value

@@ -1,10 +1,8 @@
 -- What a value feeds a hasher: the head of its encoding, and then what stands in it.
-use Rattle.std.specs.Prelude.{[], ◌∷◌, ◌++◌}
-use Rattle.std.specs.Hash.{HashWrites, u8, u64, i128}
+use Rattle.std.specs.{Prelude.{[], ◌∷◌, ◌++◌}, Hash.{HashWrites, u8, u64, i128}}
 use Rattle.cbor4ii_tree.specs.Basis.Item.{Item, integer, bytes_item, text, sequence, mapping, tag}
-use Rattle.cbor4ii_tree.specs.Basis.Item.{Items}
-use Rattle.cbor4ii_tree.specs.Basis.Item.{no_items, item, ItemPairs, no_item_pairs, item_pair}
-use Rattle.cbor4ii_tree.specs.Calls.Order.{head_of}
+use Rattle.cbor4ii_tree.specs.Basis.Item.{Items, no_items, item, ItemPairs, no_item_pairs}
+use Rattle.cbor4ii_tree.specs.{Basis.Item.item_pair, Calls.Order.head_of}
 
 abbrev pub head_writes : Item → HashWrites
 head_writes v = u8 (head_of v).0 ++ u64 (head_of v).1

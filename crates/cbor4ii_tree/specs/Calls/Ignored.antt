@@ -1,8 +1,7 @@
 -- What it is to skip an item: these bytes are those of a loose tree.
-use Rattle.std.specs.Prelude.{◌≡◌, ℕ, List, ◌++◌, length, drop, Option}
-use Rattle.cbor4ii_tree.specs.{declared.ignored.IgnoredAny.IgnoredAny}
-use Rattle.cbor4ii_tree.specs.{Basis.Tree.{Tree, bytes, Loose}}
-use Rattle.cbor4ii_tree.specs.{Basis.Cost.skip_cost, Basis.InputError.InputError}
+use Rattle.std.specs.Prelude.{◌≡◌, ℕ, List, ◌++◌, length, drop}
+use Rattle.cbor4ii_tree.specs.{declared.ignored.IgnoredAny.IgnoredAny, Basis.Tree.{Tree, bytes}}
+use Rattle.cbor4ii_tree.specs.{Basis.Tree.Loose, Basis.Cost.skip_cost}
 
 -- the first n bytes are those of a loose tree, whose skip cost is c
 pub record ReadsTree (xs : List ℕ) (n c : ℕ) : Type 0 where

@@ -2,25 +2,21 @@
 -- the error.
 use Rattle.std.specs.Prelude.{ℕ, zero, suc, List, [], ◌∷◌, length, Bool, true, false, Ok, Err}
 use Rattle.std.specs.{Prelude.if◌then◌else◌, Str.is_utf8}
-use Rattle.cbor4ii_items.specs.{Head.Width, Initial.{Kind, text_string}}
-use Rattle.cbor4ii_items.specs.Initial.{precision_bytes, Initial, starts_int, bad_int}
-use Rattle.cbor4ii_items.specs.Initial.{starts_string, starts_chunks, bad_string, starts_array}
-use Rattle.cbor4ii_items.specs.Initial.{starts_indefinite_array, bad_array, starts_map}
-use Rattle.cbor4ii_items.specs.Initial.{starts_indefinite_map, bad_map, starts_tag, bad_tag}
-use Rattle.cbor4ii_items.specs.Initial.{starts_simple, starts_bits, other_simple, initial}
-use Rattle.cbor4ii_tree.specs.{Basis.Cost.{Budget, step_in}}
-use Rattle.cbor4ii_tree.specs.{Basis.InputError.{eof, mismatch, unsupported}}
-use Rattle.cbor4ii_tree.specs.Basis.InputError.{require_utf8, Small}
-use Rattle.cbor4ii_tree.specs.{Basis.InputError.{kind_name, tag_name, break_name}}
-use Rattle.cbor4ii_tree.specs.{Calls.ItemRejects.Profile}
-use Rattle.cbor4ii_tree.specs.{Calls.ItemRejects.{same_kind, no_chunk}}
-use Rattle.cbor4ii_tree.specs.{Calls.Parse.{Parser, ◌>>=◌, prefix_at}}
-use Rattle.cbor4ii_tree.specs.Calls.Parse.{number_of_width, parse_argument, argument_of_width}
-use Rattle.cbor4ii_tree.specs.Calls.Parse.{inside_step, trees_at}
-use Rattle.cbor4ii_tree.specs.Calls.Parse.{pairs_at, indefinite_trees_at, indefinite_pairs_at}
-use Rattle.cbor4ii_tree.specs.Basis.Tree.{Tree, int, string, chunked, array, array_indefinite}
-use Rattle.cbor4ii_tree.specs.Basis.Tree.{map_of}
-use Rattle.cbor4ii_tree.specs.Basis.Tree.{map_indefinite, tagged, simple, bits, joined_chunks}
+use Rattle.cbor4ii_items.specs.{Head.Width, Initial.{Kind, text_string, precision_bytes, Initial}}
+use Rattle.cbor4ii_items.specs.Initial.{starts_int, bad_int, starts_string, starts_chunks}
+use Rattle.cbor4ii_items.specs.Initial.{bad_string, starts_array, starts_indefinite_array}
+use Rattle.cbor4ii_items.specs.Initial.{bad_array, starts_map, starts_indefinite_map, bad_map}
+use Rattle.cbor4ii_items.specs.Initial.{starts_tag, bad_tag, starts_simple, starts_bits}
+use Rattle.cbor4ii_items.specs.Initial.{other_simple, initial}
+use Rattle.cbor4ii_tree.specs.Basis.{Cost.{Budget, step_in}, InputError.{eof, mismatch}}
+use Rattle.cbor4ii_tree.specs.Basis.InputError.{unsupported, require_utf8, Small, kind_name}
+use Rattle.cbor4ii_tree.specs.Basis.{InputError.{tag_name, break_name}, Tree.{Tree, int, string}}
+use Rattle.cbor4ii_tree.specs.Basis.Tree.{chunked, array, array_indefinite, map_of, map_indefinite}
+use Rattle.cbor4ii_tree.specs.Basis.Tree.{tagged, simple, bits, joined_chunks}
+use Rattle.cbor4ii_tree.specs.Calls.{ItemRejects.{Profile, same_kind, no_chunk}, Parse.Parser}
+use Rattle.cbor4ii_tree.specs.Calls.Parse.{◌>>=◌, prefix_at, number_of_width, parse_argument}
+use Rattle.cbor4ii_tree.specs.Calls.Parse.{argument_of_width, inside_step, trees_at, pairs_at}
+use Rattle.cbor4ii_tree.specs.Calls.Parse.{indefinite_trees_at, indefinite_pairs_at}
 
 -- a string, whose text is tested for UTF-8 where strings are tested
 abbrev pub tested_string : Bool → Kind → List ℕ → Tree → Parser Tree

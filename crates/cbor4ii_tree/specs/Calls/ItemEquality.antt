@@ -1,18 +1,13 @@
 -- Equality of values as a test: equal trees, so that floats are equal with their width and bits,
 -- and maps with their order.
-use Rattle.std.specs.Prelude.{◌≡◌, ℕ, ◌==◌, List, [], ◌∷◌, Bool, true, false, ◌&&◌}
+use Rattle.std.specs.{Prelude.{◌≡◌, ℕ, ◌==◌, List, [], ◌∷◌, Bool, true, false, ◌&&◌}, Bool.Decides}
+use Rattle.std.specs.{Bool.beq, Ordering.{int_eq, on}, Cmp.{IsEquivalence, decided, first_so}}
+use Rattle.std.specs.Cmp.{second_so, unsigned_Decides, signed_Decides, booleans_Decides}
 use Rattle.std.proofs.Common.{refl, sym, subst, ap, ap₂, ◌∙◌}
-use Rattle.std.specs.Bool.{Decides, beq}
-use Rattle.std.specs.Ordering.{int_eq, on}
-use Rattle.std.specs.Cmp.{IsEquivalence, decided, first_so, second_so, unsigned_Decides}
-use Rattle.std.specs.Cmp.{signed_Decides, booleans_Decides}
 use Rattle.cbor4ii_items.specs.Initial.{Precision, half, single, double}
 use Rattle.cbor4ii_tree.specs.Basis.Item.{Item, null, boolean, integer, float, bytes_item, text}
-use Rattle.cbor4ii_tree.specs.Basis.Item.{sequence}
-use Rattle.cbor4ii_tree.specs.Basis.Item.{mapping, tag, Items, no_items, item, ItemPairs}
-use Rattle.cbor4ii_tree.specs.Basis.Item.{no_item_pairs}
-use Rattle.cbor4ii_tree.specs.Basis.Item.{item_pair}
-use Rattle.cbor4ii_tree.specs.Basis.View.{view}
+use Rattle.cbor4ii_tree.specs.Basis.Item.{sequence, mapping, tag, Items, no_items, item, ItemPairs}
+use Rattle.cbor4ii_tree.specs.{Basis.Item.{no_item_pairs, item_pair}, Basis.View.view}
 use Rattle.cbor4ii_tree.specs.declared.value.Value.{Value}
 
 abbrev pub precision_eq : Precision → Precision → Bool
@@ -69,8 +64,7 @@ precision_same _ _ e = no_truth e
 
 precision_itself : (p : Precision) → precision_eq p p ≡ true
 precision_itself half = refl
-precision_itself single = refl
-precision_itself double = refl
+precision_itself _ = refl
 
 text_same : (bs cs : List ℕ) → text_eq bs cs ≡ true → bs ≡ cs
 text_same [] [] e = refl

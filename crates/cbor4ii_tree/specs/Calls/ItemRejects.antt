@@ -1,8 +1,7 @@
 -- Where an item is rejected, by cases on its initial byte: one relation for reading a value and for
 -- skipping an item, which differ in a profile.
 use Rattle.std.specs.Prelude.{◌≡◌, ℕ, zero, suc, ◌*◌, List, [], ◌∷◌, ◌++◌, length, ◌⊎◌, IsUtf8}
-use Rattle.std.specs.Prelude.{MatchBool}
-use Rattle.std.specs.Prelude.{Option, Bool, true, false}
+use Rattle.std.specs.Prelude.{MatchBool, Option, Bool, true, false}
 use Rattle.cbor4ii_items.specs.{Budget.CostFits, Head.{Width, byte_count, break}, Initial.Sign}
 use Rattle.cbor4ii_items.specs.Initial.{Kind, byte_string, text_string, kind_major, Precision}
 use Rattle.cbor4ii_items.specs.Initial.{precision_bytes, Initial, starts_int, bad_int}
@@ -10,17 +9,13 @@ use Rattle.cbor4ii_items.specs.Initial.{starts_string, starts_chunks, bad_string
 use Rattle.cbor4ii_items.specs.Initial.{starts_indefinite_array, bad_array, starts_map}
 use Rattle.cbor4ii_items.specs.Initial.{starts_indefinite_map, bad_map, starts_tag, bad_tag}
 use Rattle.cbor4ii_items.specs.Initial.{starts_simple, starts_bits, other_simple, initial}
-use Rattle.cbor4ii_tree.specs.{Basis.Cost.{Budget, step_in, cost}}
-use Rattle.cbor4ii_tree.specs.{Basis.InputError.{InputError, eof, mismatch}}
-use Rattle.cbor4ii_tree.specs.Basis.InputError.{unsupported, require_length, require_utf8}
-use Rattle.cbor4ii_tree.specs.Basis.InputError.{Indefinite}
-use Rattle.cbor4ii_tree.specs.Basis.InputError.{Small, kind_name, tag_name, break_name}
+use Rattle.cbor4ii_tree.specs.Basis.{Cost.{Budget, step_in, cost}, InputError.{InputError, eof}}
+use Rattle.cbor4ii_tree.specs.Basis.InputError.{mismatch, unsupported, require_length, require_utf8}
+use Rattle.cbor4ii_tree.specs.Basis.InputError.{Indefinite, Small, kind_name, tag_name, break_name}
+use Rattle.cbor4ii_tree.specs.Basis.Tree.{Tree, Trees, bytes_all, Loose, IsChunk, joined_chunks}
 use Rattle.cbor4ii_tree.specs.Calls.Rejections.{Rejection, Is, Lacks, Missing, AfterHead, AtHead}
 use Rattle.cbor4ii_tree.specs.Calls.Rejections.{RejectsAtStep, Each, RejectsInCount}
-use Rattle.cbor4ii_tree.specs.Calls.Rejections.{IndefiniteItems}
-use Rattle.cbor4ii_tree.specs.{Calls.Rejections.IndefinitePairs}
-use Rattle.cbor4ii_tree.specs.{Basis.Tree.{Tree, Trees, bytes_all, Loose}}
-use Rattle.cbor4ii_tree.specs.Basis.Tree.{IsChunk, joined_chunks}
+use Rattle.cbor4ii_tree.specs.Calls.Rejections.{IndefiniteItems, IndefinitePairs}
 
 -- What reading a value and skipping an item differ in.
 pub record Profile : Type 1 where

@@ -1,20 +1,15 @@
 -- How canonical encodings compare, byte by byte: by the heads that they begin with, and then by
 -- what follows these.
 use Rattle.std.specs.Prelude.{◌≡◌, ℕ, ◌+◌, ◌*◌, ◌^◌, ◌<◌, List, [], ◌++◌, true, false, length}
-use Rattle.std.specs.Prelude.{nat_lt, if◌then◌else◌, pos, negsuc}
-use Rattle.std.specs.declared.cmp.Ordering.{Ordering}
-use Rattle.std.specs.Ordering.{nat_cmp, ordering_then}
-use Rattle.std.specs.Cmp.Lexicographic.{slice_cmp}
-use Rattle.cbor4ii_items.specs.Head.{additional, shortest_width}
-use Rattle.cbor4ii_items.specs.Initial.{Sign, unsigned, negative, sign_major, precision_byte}
-use Rattle.cbor4ii_items.specs.Initial.{precision_bytes}
+use Rattle.std.specs.{Prelude.{nat_lt, if◌then◌else◌, pos, negsuc}, declared.cmp.Ordering.Ordering}
+use Rattle.std.specs.{Ordering.{nat_cmp, ordering_then}, Cmp.Lexicographic.slice_cmp}
+use Rattle.cbor4ii_items.specs.{Head.{additional, shortest_width}, Initial.{Sign, unsigned}}
+use Rattle.cbor4ii_items.specs.Initial.{negative, sign_major, precision_byte, precision_bytes}
 use Rattle.cbor4ii_items.specs.Numbers.{definite_string}
-use Rattle.cbor4ii_tree.specs.Basis.Tree.{bytes_all, bytes_pairs}
-use Rattle.cbor4ii_tree.specs.Basis.Item.{Item, null, boolean, integer, float, bytes_item, text}
-use Rattle.cbor4ii_tree.specs.Basis.Item.{sequence}
+use Rattle.cbor4ii_tree.specs.{Basis.Tree.{bytes_all, bytes_pairs}, Basis.Item.{Item, null}}
+use Rattle.cbor4ii_tree.specs.Basis.Item.{boolean, integer, float, bytes_item, text, sequence}
 use Rattle.cbor4ii_tree.specs.Basis.Item.{mapping, tag, Items, no_items, item_count, ItemPairs}
-use Rattle.cbor4ii_tree.specs.Basis.Item.{no_item_pairs}
-use Rattle.cbor4ii_tree.specs.Basis.Item.{item_pair_count}
+use Rattle.cbor4ii_tree.specs.Basis.Item.{no_item_pairs, item_pair_count}
 use Rattle.cbor4ii_tree.specs.Basis.Canonical.{canonical_encoding, canonical_trees, canonical_pairs}
 use Rattle.cbor4ii_tree.specs.Basis.Canonical.{magnitude, sign_tag}
 

@@ -4,11 +4,9 @@ use Rattle.std.specs.Prelude.{ℕ, zero, suc, ◌-◌, ◌%◌, ◌==◌, List, 
 use Rattle.std.specs.Prelude.{Option, Some, None, Result, Ok, Err, nat_lt, if◌then◌else◌}
 use Rattle.cbor4ii_items.specs.Head.{Width, in_first, one, two, four, eight, break}
 use Rattle.cbor4ii_items.specs.{Magnitude.number_of, Reading.go_on}
-use Rattle.cbor4ii_tree.specs.{Basis.Cost.Budget}
-use Rattle.cbor4ii_tree.specs.{Basis.InputError.{InputError, eof, depth_overflow, len_of}}
-use Rattle.cbor4ii_tree.specs.{Basis.InputError.{Small, break_name}}
-use Rattle.cbor4ii_tree.specs.{Basis.Tree.{Tree, Trees, no_trees, tree}}
-use Rattle.cbor4ii_tree.specs.Basis.Tree.{Pairs, no_pairs, pair}
+use Rattle.cbor4ii_tree.specs.{Basis.Cost.Budget, Basis.InputError.{InputError, eof}}
+use Rattle.cbor4ii_tree.specs.Basis.InputError.{depth_overflow, len_of, Small, break_name}
+use Rattle.cbor4ii_tree.specs.Basis.Tree.{Tree, Trees, no_trees, tree, Pairs, no_pairs, pair}
 
 -- what was read and the bytes after it, or the error and the bytes that are left then
 abbrev pub Answer : Type 0 → Type 0

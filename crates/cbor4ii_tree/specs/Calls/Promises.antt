@@ -1,21 +1,16 @@
 -- What reading a value and skipping an item promise beside the headline, of the bytes that the
 -- reader reports.
 use Rattle.std.specs.Prelude.{◌≡◌, ◌≤◌, ◌+◌, ℕ, List, [], ◌++◌, length, take, Some, Result, IfOk}
-use Rattle.cbor4ii_rw.specs.View.{View, IfKnown}
-use Rattle.cbor4ii_rw.specs.declared.error.DecodeError.{DecodeError}
-use Rattle.cbor4ii_items.specs.Budget.{CostFits}
-use Rattle.cbor4ii_items.specs.Decoding.{Format, leaf_format, format_by, taking_memory}
-use Rattle.cbor4ii_tree.specs.Basis.Tree.{Tree, bytes, Loose}
-use Rattle.cbor4ii_tree.specs.Basis.Item.{Item, size}
-use Rattle.cbor4ii_tree.specs.Basis.Cost.{Budget, skip_cost}
-use Rattle.cbor4ii_tree.specs.Basis.InputError.{InputError, IsEof, IsDepthOverflow, IsFinal}
-use Rattle.cbor4ii_tree.specs.Basis.InputError.{MayReject}
+use Rattle.cbor4ii_rw.specs.{View.{View, IfKnown}, declared.error.DecodeError.DecodeError}
+use Rattle.cbor4ii_items.specs.{Budget.CostFits, Decoding.{Format, leaf_format, format_by}}
+use Rattle.cbor4ii_items.specs.Decoding.{taking_memory}
+use Rattle.cbor4ii_tree.specs.{Basis.Tree.{Tree, bytes, Loose}, Basis.Item.{Item, size}}
+use Rattle.cbor4ii_tree.specs.{Basis.Cost.{Budget, skip_cost}, Basis.InputError.{InputError, IsEof}}
+use Rattle.cbor4ii_tree.specs.Basis.InputError.{IsDepthOverflow, IsFinal, MayReject}
 use Rattle.cbor4ii_tree.specs.Basis.Encodings.{Encodes, DecodesTo, Skips, IsProperPrefix}
 use Rattle.cbor4ii_tree.specs.Calls.SkippingRejects.{SkippingRejects}
-use Rattle.cbor4ii_tree.specs.Calls.ReadingRejects.{ReadingRejects}
-use Rattle.cbor4ii_tree.specs.Basis.Headline.{Answered, Rejected}
-use Rattle.cbor4ii_tree.specs.Basis.View.{view}
-use Rattle.cbor4ii_tree.specs.declared.value.Value.{Value}
+use Rattle.cbor4ii_tree.specs.{Calls.ReadingRejects.ReadingRejects, Basis.Headline.Answered}
+use Rattle.cbor4ii_tree.specs.{Basis.Headline.Rejected, Basis.View.view, declared.value.Value.Value}
 
 -- the first n bytes are an encoding of the value, in c steps
 pub record ReadsValue (xs : List ℕ) (v : Item) (n c : ℕ) : Type 0 where

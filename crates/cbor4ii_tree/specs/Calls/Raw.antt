@@ -8,14 +8,12 @@ use Rattle.cbor4ii_rw.specs.declared.error.DecodeError.{DecodeError}
 use Rattle.cbor4ii_items.specs.{Head.IsBytes, Decoding.Format, Lent.Lends}
 use Rattle.cbor4ii_items.specs.InputError.{input_error_of, is_read, is_out_of_memory}
 use Rattle.cbor4ii_items.specs.InputError.{is_depth_overflow}
-use Rattle.cbor4ii_tree.specs.declared.{raw.RawValue.RawValue, lend_raw.NoPrefix.NoPrefix}
-use Rattle.cbor4ii_tree.specs.{declared.lend_raw.NoPrefix.TheVariants.{Read, Short}}
-use Rattle.cbor4ii_tree.specs.{Basis.Tree.Tree}
-use Rattle.cbor4ii_tree.specs.{Basis.Tree.bytes, Basis.Cost.Budget}
-use Rattle.cbor4ii_tree.specs.{Basis.InputError.{InputError, require_borrowed}}
+use Rattle.cbor4ii_tree.specs.{declared.raw.RawValue.RawValue, declared.lend_raw.NoPrefix.NoPrefix}
+use Rattle.cbor4ii_tree.specs.declared.lend_raw.NoPrefix.TheVariants.{Read, Short}
+use Rattle.cbor4ii_tree.specs.{Basis.Tree.{Tree, bytes}, Basis.Cost.Budget}
+use Rattle.cbor4ii_tree.specs.Basis.InputError.{InputError, require_borrowed}
 use Rattle.cbor4ii_tree.specs.{Basis.Encodings.Skips, Calls.SkippingRejects.SkippingRejects}
-use Rattle.cbor4ii_tree.specs.{Calls.Ignored.ReadsTree}
-use Rattle.cbor4ii_tree.specs.Basis.Headline.{Answered, Rejected}
+use Rattle.cbor4ii_tree.specs.{Calls.Ignored.ReadsTree, Basis.Headline.{Answered, Rejected}}
 
 -- the name of a kept item in errors
 abbrev pub raw_value : List ℕ

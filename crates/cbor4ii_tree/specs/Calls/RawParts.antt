@@ -1,26 +1,19 @@
 -- The items and the pairs of a kept item, one after another, and what a key or a place finds there
 -- (RFC 8949 sections 3.1 and 3.2).
 use denote.Ref.{Bor}
-use Rattle.std.specs.Prelude.{◌≡◌, ◌≢◌, ℕ, zero, suc, ◌<◌, ◌≤◌, ℤ, List, [], ◌∷◌, ◌++◌}
-use Rattle.std.specs.Prelude.{Bool, true, false, ◌&&◌, if◌then◌else◌, length, Option, Some, None}
-use Rattle.std.specs.Prelude.{IsSomeAnd, get_or}
-use Rattle.std.specs.Ordering.{int_eq}
+use Rattle.std.specs.Prelude.{◌≡◌, ◌≢◌, ℕ, zero, suc, ◌<◌, ◌≤◌, ℤ, List, [], ◌∷◌, ◌++◌, Bool, true}
+use Rattle.std.specs.Prelude.{false, ◌&&◌, if◌then◌else◌, length, Option, Some, None, IsSomeAnd}
+use Rattle.std.specs.{Prelude.get_or, Ordering.int_eq}
 use Rattle.cbor4ii_items.specs.Head.{Width, HeadFits, head, indefinite_head, break}
 use Rattle.cbor4ii_items.specs.Initial.{text_string}
 use Rattle.cbor4ii_tree.specs.Basis.Tree.{Tree, int, string, chunked, array, array_indefinite}
-use Rattle.cbor4ii_tree.specs.Basis.Tree.{map_of}
-use Rattle.cbor4ii_tree.specs.Basis.Tree.{map_indefinite, Trees, no_trees, tree, Pairs, no_pairs}
-use Rattle.cbor4ii_tree.specs.Basis.Tree.{pair}
-use Rattle.cbor4ii_tree.specs.Basis.Tree.{count, pair_count, bytes, bytes_all, bytes_pairs}
-use Rattle.cbor4ii_tree.specs.Basis.Tree.{joined_chunks}
-use Rattle.cbor4ii_tree.specs.Basis.Tree.{Loose, LooseAll, LoosePairs}
-use Rattle.cbor4ii_tree.specs.Basis.Item.{Item, Items, no_items, item}
-use Rattle.cbor4ii_tree.specs.Calls.ItemEquality.{text_eq}
+use Rattle.cbor4ii_tree.specs.Basis.Tree.{map_of, map_indefinite, Trees, no_trees, tree, Pairs}
+use Rattle.cbor4ii_tree.specs.Basis.Tree.{no_pairs, pair, count, pair_count, bytes, bytes_all}
+use Rattle.cbor4ii_tree.specs.Basis.Tree.{bytes_pairs, joined_chunks, Loose, LooseAll, LoosePairs}
+use Rattle.cbor4ii_tree.specs.{Basis.Item.{Item, Items, no_items, item}, Calls.ItemEquality.text_eq}
 use Rattle.cbor4ii_tree.specs.{Basis.Encodings.Encodes, Basis.Meaning.number, Calls.Raw.raw_content}
-use Rattle.cbor4ii_tree.specs.declared.raw.RawValue.{RawValue}
-use Rattle.cbor4ii_tree.specs.declared.raw_head.Head.{Head}
-use Rattle.cbor4ii_tree.specs.declared.raw_parts.Parts.{Parts}
-use Rattle.cbor4ii_tree.specs.declared.raw_parts.RawItems.{RawItems}
+use Rattle.cbor4ii_tree.specs.{declared.raw.RawValue.RawValue, declared.raw_head.Head.Head}
+use Rattle.cbor4ii_tree.specs.{declared.raw_parts.Parts.Parts, declared.raw_parts.RawItems.RawItems}
 use Rattle.cbor4ii_tree.specs.declared.raw_parts.RawPairs.{RawPairs}
 
 -- ---- what an answer has

@@ -1,9 +1,8 @@
 -- Reading a value, as a program on lists.
 use Rattle.std.specs.Prelude.{Ok}
 use Rattle.cbor4ii_tree.specs.{Basis.Cost.Budget, Basis.Item.Item, Calls.ItemAt.item_at}
-use Rattle.cbor4ii_tree.specs.{Basis.Meaning.value, Calls.Parse.Parser}
-use Rattle.cbor4ii_tree.specs.{Calls.Parse.◌>>=◌, Calls.ReadingRejects.reading_profile}
-use Rattle.cbor4ii_tree.specs.{Basis.Tree.Tree}
+use Rattle.cbor4ii_tree.specs.{Basis.Meaning.value, Calls.Parse.{Parser, ◌>>=◌}}
+use Rattle.cbor4ii_tree.specs.{Calls.ReadingRejects.reading_profile, Basis.Tree.Tree}
 
 -- the plain tree at the beginning of the input, and the rest
 abbrev pub read_tree : Budget → Parser Tree

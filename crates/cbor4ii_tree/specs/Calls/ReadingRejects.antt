@@ -1,15 +1,11 @@
 -- Where reading a value is rejected.
 use Rattle.std.specs.Prelude.{ℕ, List, true}
 use Rattle.cbor4ii_items.specs.{Budget.CostFits, Initial.Initial}
-use Rattle.cbor4ii_tree.specs.{Basis.Cost.{Budget, step_in, cost}}
-use Rattle.cbor4ii_tree.specs.{Basis.InputError.{InputError, sign_name}}
-use Rattle.cbor4ii_tree.specs.Basis.InputError.{kind_name, precision_name, array_name, map_name}
-use Rattle.cbor4ii_tree.specs.{Basis.InputError.value_name}
-use Rattle.cbor4ii_tree.specs.{Calls.ItemRejects.{Profile, RejectsBy, RejectsFrom}}
-use Rattle.cbor4ii_tree.specs.{Calls.ItemRejects.ItemRejects}
-use Rattle.cbor4ii_tree.specs.{Calls.Rejections.{Rejection, RejectsAtStep}}
-use Rattle.cbor4ii_tree.specs.{Basis.Tree.Tree}
-use Rattle.cbor4ii_tree.specs.Basis.Tree.{Plain}
+use Rattle.cbor4ii_tree.specs.Basis.{Cost.{Budget, step_in, cost}, InputError.InputError}
+use Rattle.cbor4ii_tree.specs.Basis.InputError.{sign_name, kind_name, precision_name, array_name}
+use Rattle.cbor4ii_tree.specs.Basis.{InputError.{map_name, value_name}, Tree.{Tree, Plain}}
+use Rattle.cbor4ii_tree.specs.Calls.ItemRejects.{Profile, RejectsBy, RejectsFrom, ItemRejects}
+use Rattle.cbor4ii_tree.specs.Calls.Rejections.{Rejection, RejectsAtStep}
 pub use Rattle.cbor4ii_tree.specs.Calls.ItemRejects.{ReadableChunk, CutString, NoUtf8}
 pub use Rattle.cbor4ii_tree.specs.Calls.ItemRejects.{ChunkRejectsBy}
 pub use Rattle.cbor4ii_tree.specs.Calls.ItemRejects.{ChunkRejects}

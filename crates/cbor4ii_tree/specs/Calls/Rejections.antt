@@ -3,12 +3,10 @@
 use Rattle.std.specs.Prelude.{◌≡◌, ◌≢◌, ℕ, ◌-◌, ◌<◌, List, [], ◌∷◌, ◌++◌, length, ◌⊎◌, Option, Some}
 use Rattle.std.specs.Prelude.{None}
 use Rattle.cbor4ii_items.specs.Head.{Width, byte_count, HeadFits, head, break}
-use Rattle.cbor4ii_tree.specs.{Basis.Cost.Budget}
-use Rattle.cbor4ii_tree.specs.{Basis.InputError.{InputError, eof, depth_overflow, len_of}}
-use Rattle.cbor4ii_tree.specs.{Basis.InputError.{Small, break_name}}
-use Rattle.cbor4ii_tree.specs.{Basis.Tree.{Tree, Trees, no_trees, tree}}
-use Rattle.cbor4ii_tree.specs.Basis.Tree.{Pairs, no_pairs, pair, count, bytes, bytes_all}
-use Rattle.cbor4ii_tree.specs.Basis.Tree.{bytes_pairs}
+use Rattle.cbor4ii_tree.specs.{Basis.Cost.Budget, Basis.InputError.{InputError, eof}}
+use Rattle.cbor4ii_tree.specs.Basis.InputError.{depth_overflow, len_of, Small, break_name}
+use Rattle.cbor4ii_tree.specs.Basis.Tree.{Tree, Trees, no_trees, tree, Pairs, no_pairs, pair, count}
+use Rattle.cbor4ii_tree.specs.Basis.Tree.{bytes, bytes_all, bytes_pairs}
 
 abbrev pub Rejection : Type 1
 Rejection = List ℕ → InputError → List ℕ → Type 0

@@ -1,7 +1,6 @@
 -- Two answers to one input: they say the same.
 use Rattle.std.specs.Prelude.{◌≡◌, ◌⊎◌, None, Result, Ok, Err}
-use Rattle.cbor4ii_rw.specs.declared.error.DecodeError.{DecodeError}
-use Rattle.cbor4ii_rw.specs.View.{View}
+use Rattle.cbor4ii_rw.specs.{declared.error.DecodeError.DecodeError, View.View}
 use Rattle.cbor4ii_items.specs.InputError.{input_error_of}
 
 -- the reader failed, or memory was refused

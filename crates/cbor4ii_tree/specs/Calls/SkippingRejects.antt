@@ -1,11 +1,10 @@
 -- Where skipping an item is rejected.
 use Rattle.std.specs.Prelude.{ℕ, ◌-◌, List, ◌∷◌, Some, false}
 use Rattle.cbor4ii_items.specs.{Budget.CostFits, Initial.Initial}
-use Rattle.cbor4ii_tree.specs.{Basis.Cost.{Budget, step_in, skip_cost}, Basis.InputError.InputError}
-use Rattle.cbor4ii_tree.specs.{Basis.InputError.ignored_any, Calls.ItemRejects.{Profile, RejectsBy}}
-use Rattle.cbor4ii_tree.specs.{Calls.ItemRejects.{RejectsFrom, ItemRejects}}
-use Rattle.cbor4ii_tree.specs.{Calls.Rejections.Rejection}
-use Rattle.cbor4ii_tree.specs.{Calls.Rejections.RejectsAtStep, Basis.Tree.{Tree, Loose}}
+use Rattle.cbor4ii_tree.specs.Basis.{Cost.{Budget, step_in, skip_cost}, InputError.InputError}
+use Rattle.cbor4ii_tree.specs.Basis.{InputError.ignored_any, Tree.{Tree, Loose}}
+use Rattle.cbor4ii_tree.specs.Calls.ItemRejects.{Profile, RejectsBy, RejectsFrom, ItemRejects}
+use Rattle.cbor4ii_tree.specs.Calls.Rejections.{Rejection, RejectsAtStep}
 
 -- an item that is skipped whole
 abbrev pub Skippable : Budget → Tree → Type 0

@@ -3,8 +3,7 @@ use denote.Ref.{Bor}
 use Rattle.std.specs.Prelude.{ℕ, List, [], ◌∷◌}
 use Rattle.cbor4ii_tree.specs.Basis.Item.{Item, text, ItemPairs, no_item_pairs, item_pair}
 use Rattle.cbor4ii_tree.specs.Basis.View.{view, pairs_view}
-use Rattle.cbor4ii_tree.specs.declared.text_pairs.TextPairs.{TextPairs}
-use Rattle.cbor4ii_tree.specs.declared.value.Value.{Value}
+use Rattle.cbor4ii_tree.specs.{declared.text_pairs.TextPairs.TextPairs, declared.value.Value.Value}
 
 -- the text of each key that is one, with its value, in order, equal keys kept
 abbrev pub text_pairs : ItemPairs → List (List ℕ × Item)

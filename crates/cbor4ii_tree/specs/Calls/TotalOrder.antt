@@ -1,19 +1,13 @@
 -- An order of values in which equal ones alone tie: that of the lists of numbers that stand for
 -- them. A value's list is the number of its kind, one number more, and what stands in it.
 use Rattle.std.specs.Prelude.{◌≡◌, ◌⊎◌, ℕ, List, [], ◌∷◌, ◌++◌, Bool, true, false, length, pos}
-use Rattle.std.specs.Prelude.{negsuc}
-use Rattle.std.specs.Ordering.{is_lt, nat_cmp}
-use Rattle.std.specs.Cmp.Lexicographic.{slice_cmp}
+use Rattle.std.specs.{Prelude.negsuc, Ordering.{is_lt, nat_cmp}, Cmp.Lexicographic.slice_cmp}
 use denote.Ref.{Bor}
-use Rattle.cbor4ii_items.specs.Initial.{half, single, double}
-use Rattle.cbor4ii_items.specs.SequenceBytes.{pair_bytes}
+use Rattle.cbor4ii_items.specs.{Initial.{half, single, double}, SequenceBytes.pair_bytes}
 use Rattle.cbor4ii_tree.specs.Basis.Item.{Item, null, boolean, integer, float, bytes_item, text}
-use Rattle.cbor4ii_tree.specs.Basis.Item.{sequence}
-use Rattle.cbor4ii_tree.specs.Basis.Item.{mapping, tag, Items, no_items, item, item_count}
-use Rattle.cbor4ii_tree.specs.Basis.Item.{ItemPairs}
-use Rattle.cbor4ii_tree.specs.Basis.Item.{no_item_pairs, item_pair, item_pair_count}
-use Rattle.cbor4ii_tree.specs.Basis.View.{view}
-use Rattle.cbor4ii_tree.specs.declared.value.Value.{Value}
+use Rattle.cbor4ii_tree.specs.Basis.Item.{sequence, mapping, tag, Items, no_items, item, item_count}
+use Rattle.cbor4ii_tree.specs.Basis.Item.{ItemPairs, no_item_pairs, item_pair, item_pair_count}
+use Rattle.cbor4ii_tree.specs.{Basis.View.view, declared.value.Value.Value}
 
 -- The kind's number goes with the sign of an integer and the width of a float.
 -- Two numbers: the kind's, and the number that the value is, its length, its count or its tag.

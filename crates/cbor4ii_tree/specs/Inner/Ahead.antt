@@ -1,20 +1,19 @@
 -- What shown bytes begin with, where items are skipped.
-use Rattle.std.specs.Prelude.{◌≡◌, ◌≢◌, ◌+◌, ◌-◌, ◌^◌, ◌%◌, ◌==◌, ℕ, ◌≤◌, ◌<◌, nat_lt, if◌then◌else◌}
-use Rattle.std.specs.Prelude.{List, [], ◌∷◌, ◌++◌, length, take, drop, get_or, Some, Bool, true}
-use Rattle.std.specs.Prelude.{false, ◌⊎◌}
+use Rattle.std.specs.Prelude.{◌≡◌, ◌≢◌, ◌+◌, ◌-◌, ◌^◌, ◌%◌, ◌==◌, ℕ, ◌≤◌, ◌<◌, nat_lt}
+use Rattle.std.specs.Prelude.{if◌then◌else◌, List, [], ◌∷◌, ◌++◌, length, take, drop, get_or, Some}
+use Rattle.std.specs.Prelude.{Bool, true, false, ◌⊎◌}
 use Rattle.cbor4ii_items.specs.{Head.{IsBytes, break}, Initial.initial}
-use Rattle.cbor4ii_tree.specs.{Basis.Cost.{Budget, step_in}}
-use Rattle.cbor4ii_tree.specs.{Basis.InputError.{InputError, eof, Small}}
-use Rattle.cbor4ii_tree.specs.{Basis.InputError.break_name, Inner.Runs.{BeginsRun, SkipsRun}}
-use Rattle.cbor4ii_tree.specs.{Calls.Rejections.{Rejection, Is, NoBreak}}
-use Rattle.cbor4ii_tree.specs.Calls.RawParts.{BeginsWithBreak}
-use Rattle.cbor4ii_tree.specs.{Inner.Skipping.{start_of, HeadLeads}}
+use Rattle.cbor4ii_tree.specs.{Basis.Cost.{Budget, step_in}, Basis.InputError.{InputError, eof}}
+use Rattle.cbor4ii_tree.specs.{Basis.InputError.{Small, break_name}, Inner.Runs.BeginsRun}
+use Rattle.cbor4ii_tree.specs.{Inner.Runs.SkipsRun, Calls.Rejections.{Rejection, Is, NoBreak}}
+use Rattle.cbor4ii_tree.specs.{Calls.RawParts.BeginsWithBreak, Inner.Skipping.{start_of, HeadLeads}}
 use Rattle.cbor4ii_tree.specs.Inner.Skipping.{RejectsSkippingAfter, SkipsItems, RejectsSkippingOne}
-use Rattle.cbor4ii_tree.specs.declared.skip.{initial.After.After, items.Went.Went}
+use Rattle.cbor4ii_tree.specs.{declared.skip.initial.After.After, declared.skip.items.Went.Went}
 use Rattle.cbor4ii_tree.specs.declared.skip.items.Went.TheVariants.{Past, Into}
-use Rattle.cbor4ii_tree.specs.declared.{skip.initial.Start.Start, ahead.Among.Among}
+use Rattle.cbor4ii_tree.specs.{declared.skip.initial.Start.Start, declared.ahead.Among.Among}
 use Rattle.cbor4ii_tree.specs.declared.ahead.Among.TheVariants.{Items, Indefinite}
-use Rattle.cbor4ii_tree.specs.declared.ahead.Ahead.{Ahead, TheVariants.{Run, Head, Break, Unseen}}
+use Rattle.cbor4ii_tree.specs.{declared.ahead.Ahead.Ahead, declared.ahead.Ahead.TheVariants.Run}
+use Rattle.cbor4ii_tree.specs.declared.ahead.Ahead.TheVariants.{Head, Break, Unseen}
 use Rattle.cbor4ii_tree.specs.declared.skip.initial.After.TheVariants as after
 use Rattle.cbor4ii_tree.specs.declared.skip.initial.Start.TheVariants as start
 

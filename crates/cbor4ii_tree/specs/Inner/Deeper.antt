@@ -2,8 +2,7 @@
 use Rattle.std.specs.Prelude.{◌≡◌, ℕ, zero, suc, List, true}
 use Rattle.cbor4ii_rw.specs.{View.View, Reader.StepsIn}
 use Rattle.cbor4ii_tree.specs.{Basis.Cost.Budget, Basis.InputError.InputError}
-use Rattle.cbor4ii_tree.specs.{Inner.Skipping.SkipsItems}
-use Rattle.cbor4ii_tree.specs.Inner.Skipping.{RejectsSkippingItems}
+use Rattle.cbor4ii_tree.specs.Inner.Skipping.{SkipsItems, RejectsSkippingItems}
 
 -- so many steps were taken, and this budget is left
 abbrev pub Deeper : ℕ → Budget → Budget → Type 0

@@ -1,26 +1,18 @@
 -- Values that hold no other, where they stand whole in shown bytes.
-use Rattle.std.specs.Prelude.{◌≡◌, ◌≢◌, ℕ, suc, ◌+◌, ◌≤◌, ◌/◌, ◌%◌, ◌⊎◌, List, ◌∷◌}
-use Rattle.std.specs.Prelude.{length, take, Option, Some, None, Result, Ok, Err, IfSome, Bool, true}
-use Rattle.cbor4ii_rw.specs.View.{View}
-use Rattle.cbor4ii_rw.specs.declared.error.DecodeError.{DecodeError}
+use Rattle.std.specs.Prelude.{◌≡◌, ◌≢◌, ℕ, suc, ◌+◌, ◌≤◌, ◌/◌, ◌%◌, ◌⊎◌, List, ◌∷◌, length, take}
+use Rattle.std.specs.Prelude.{Option, Some, None, Result, Ok, Err, IfSome, Bool, true}
+use Rattle.cbor4ii_rw.specs.{View.View, declared.error.DecodeError.DecodeError}
 use Rattle.cbor4ii_items.specs.Head.{ArgumentAfter, HeadFits, IsBytes, Width, byte_count, head}
-use Rattle.cbor4ii_items.specs.Head.{shortest_width}
-use Rattle.cbor4ii_items.specs.Initial.{simple_byte, simple_undefined}
-use Rattle.cbor4ii_tree.specs.Calls.Asking.{Asking, Asks, InValue}
-use Rattle.cbor4ii_tree.specs.Basis.Cost.{Budget, cost}
+use Rattle.cbor4ii_items.specs.{Head.shortest_width, Initial.{simple_byte, simple_undefined}}
+use Rattle.cbor4ii_tree.specs.{Calls.Asking.{Asking, Asks, InValue}, Basis.Cost.{Budget, cost}}
 use Rattle.cbor4ii_tree.specs.Inner.Does.{Accepting, DoesUnder, Gives, error_left}
-use Rattle.cbor4ii_tree.specs.Basis.Item.{IsItem}
-use Rattle.cbor4ii_tree.specs.Basis.Meaning.{value}
-use Rattle.cbor4ii_tree.specs.{Inner.BytesAhead.Offers, Calls.Rejections.Rejection}
-use Rattle.cbor4ii_tree.specs.Calls.CanonicalShape.{CanonicalShape}
-use Rattle.cbor4ii_tree.specs.Basis.Tree.{Tree, bytes, Plain}
-use Rattle.cbor4ii_tree.specs.Inner.Valuing.{InRange, ReadsUnder, RejectsUnder}
-use Rattle.cbor4ii_tree.specs.Basis.View.{view}
-use Rattle.cbor4ii_tree.specs.declared.value.Value.{Value}
-use Rattle.cbor4ii_tree.specs.declared.leaf.ValueSeen.{ValueSeen}
+use Rattle.cbor4ii_tree.specs.{Basis.Item.IsItem, Basis.Meaning.value, Inner.BytesAhead.Offers}
+use Rattle.cbor4ii_tree.specs.{Calls.Rejections.Rejection, Calls.CanonicalShape.CanonicalShape}
+use Rattle.cbor4ii_tree.specs.{Basis.Tree.{Tree, bytes, Plain}, Inner.Valuing.{InRange, ReadsUnder}}
+use Rattle.cbor4ii_tree.specs.{Inner.Valuing.RejectsUnder, Basis.View.view}
+use Rattle.cbor4ii_tree.specs.{declared.value.Value.Value, declared.leaf.ValueSeen.ValueSeen}
 use Rattle.cbor4ii_tree.specs.declared.leaf.ValueSeen.TheVariants.{Whole, NoMemory, End, Begins}
-use Rattle.cbor4ii_tree.specs.declared.leaf.Next.{Next}
-use Rattle.cbor4ii_tree.specs.declared.leaf.TakenOrNext.{TakenOrNext}
+use Rattle.cbor4ii_tree.specs.{declared.leaf.Next.Next, declared.leaf.TakenOrNext.TakenOrNext}
 use Rattle.cbor4ii_tree.specs.declared.leaf.TakenOrNext.TheVariants.{Taken}
 use Rattle.cbor4ii_tree.specs.declared.leaf.TakenOrNext.TheVariants as looked
 

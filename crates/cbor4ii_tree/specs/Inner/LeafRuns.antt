@@ -1,30 +1,20 @@
 -- Runs of values that hold no other, where they stand whole in shown bytes.
 use Rattle.std.specs.Prelude.{◌≡◌, ℕ, ◌+◌, ◌<◌, ◌≤◌, ◌⊎◌, List, [], ◌∷◌, ◌++◌, length, take, drop}
 use Rattle.std.specs.Prelude.{◌-◌, Option, Some, None, OnSome, IfSome, IfNone, IsTrue, Bool, true}
-use Rattle.std.specs.Prelude.{Result}
-use Rattle.std.specs.Prelude.{Ok, Err}
-use Rattle.cbor4ii_rw.specs.View.{View}
-use Rattle.cbor4ii_rw.specs.declared.error.DecodeError.{DecodeError}
-use Rattle.cbor4ii_items.specs.Head.{IsBytes}
-use Rattle.cbor4ii_items.specs.InputError.{is_out_of_memory}
-use Rattle.cbor4ii_tree.specs.Calls.Asking.{Asks}
-use Rattle.cbor4ii_tree.specs.Inner.Asking.{InParts}
-use Rattle.cbor4ii_tree.specs.Basis.Cost.{Budget, cost, step_in}
-use Rattle.cbor4ii_tree.specs.Inner.Does.{Accepting, Does, DoesUnder, Gives, error_left}
-use Rattle.cbor4ii_tree.specs.Basis.Item.{AreItems}
-use Rattle.cbor4ii_tree.specs.Inner.Leaf.{CanTake, SeesNext, ShowsNext, WantsContent}
-use Rattle.cbor4ii_tree.specs.Basis.Meaning.{values}
-use Rattle.cbor4ii_tree.specs.Basis.InputError.{value_name}
-use Rattle.cbor4ii_tree.specs.Basis.InputError.{eof, Small}
+use Rattle.std.specs.Prelude.{Result, Ok, Err}
+use Rattle.cbor4ii_rw.specs.{View.View, declared.error.DecodeError.DecodeError}
+use Rattle.cbor4ii_items.specs.{Head.IsBytes, InputError.is_out_of_memory}
+use Rattle.cbor4ii_tree.specs.{Calls.Asking.Asks, Inner.Asking.InParts, Basis.Cost.{Budget, cost}}
+use Rattle.cbor4ii_tree.specs.{Basis.Cost.step_in, Inner.Does.{Accepting, Does, DoesUnder, Gives}}
+use Rattle.cbor4ii_tree.specs.{Inner.Does.error_left, Basis.Item.AreItems, Inner.Leaf.CanTake}
+use Rattle.cbor4ii_tree.specs.{Inner.Leaf.{SeesNext, ShowsNext, WantsContent}, Basis.Meaning.values}
+use Rattle.cbor4ii_tree.specs.Basis.InputError.{value_name, eof, Small}
 use Rattle.cbor4ii_tree.specs.Calls.Rejections.{Rejection, Is, Each}
-use Rattle.cbor4ii_tree.specs.Calls.CanonicalShape.{CanonicalShape}
-use Rattle.cbor4ii_tree.specs.Basis.Tree.{Tree, Trees, Plain, count, bytes_all}
-use Rattle.cbor4ii_tree.specs.Inner.Valuing.{ReadsItems, RejectsItems, flat_values}
-use Rattle.cbor4ii_tree.specs.Basis.View.{items_view}
-use Rattle.cbor4ii_tree.specs.declared.value.Value.{Value}
-use Rattle.cbor4ii_tree.specs.declared.leaf.Next.{Next}
-use Rattle.cbor4ii_tree.specs.declared.run.Pairs.{Pairs}
-use Rattle.cbor4ii_tree.specs.declared.run.RunSeen.{RunSeen}
+use Rattle.cbor4ii_tree.specs.{Calls.CanonicalShape.CanonicalShape, Basis.Tree.{Tree, Trees, Plain}}
+use Rattle.cbor4ii_tree.specs.{Basis.Tree.{count, bytes_all}, Inner.Valuing.ReadsItems}
+use Rattle.cbor4ii_tree.specs.{Inner.Valuing.{RejectsItems, flat_values}, Basis.View.items_view}
+use Rattle.cbor4ii_tree.specs.{declared.value.Value.Value, declared.leaf.Next.Next}
+use Rattle.cbor4ii_tree.specs.{declared.run.Pairs.Pairs, declared.run.RunSeen.RunSeen}
 use Rattle.cbor4ii_tree.specs.declared.run.RunSeen.TheVariants as run
 
 -- the values of pairs, and after them the key whose value is to come, if there is one

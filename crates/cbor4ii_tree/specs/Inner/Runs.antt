@@ -1,8 +1,7 @@
 -- Runs: items one after another, of which each takes one step.
 use Rattle.std.specs.Prelude.{◌≡◌, ◌+◌, ◌≤◌, ℕ, List, ◌++◌, length, take, drop}
-use Rattle.cbor4ii_tree.specs.{Basis.Tree.{Tree, Trees, count, bytes, bytes_all, Loose}}
-use Rattle.cbor4ii_tree.specs.{Basis.Cost.skip_cost}
-use Rattle.cbor4ii_tree.specs.Calls.Rejections.{Each}
+use Rattle.cbor4ii_tree.specs.Basis.Tree.{Tree, Trees, count, bytes, bytes_all, Loose}
+use Rattle.cbor4ii_tree.specs.{Basis.Cost.skip_cost, Calls.Rejections.Each}
 
 -- an item that takes one step
 abbrev pub IsItemLeaf : Tree → Type 0

@@ -1,24 +1,20 @@
 -- What the parts of reading a value accept, and where they fail. Where canonical is set, a value is
 -- read from its canonical encoding alone.
 use Rattle.std.specs.Prelude.{◌≡◌, ℕ, ◌*◌, ◌/◌, List, [], ◌∷◌, ◌++◌, length, Option, Some, None}
-use Rattle.std.specs.Prelude.{Bool, true, false, ◌⊎◌}
-use Rattle.cbor4ii_items.specs.Head.{break}
-use Rattle.cbor4ii_items.specs.Initial.{Simple, simple_byte}
-use Rattle.std.specs.declared.vec.Vec.{Vec}
+use Rattle.std.specs.{Prelude.{Bool, true, false, ◌⊎◌}, declared.vec.Vec.Vec}
 use Rattle.std.specs.declared.alloc.Global.{Global}
-use Rattle.cbor4ii_tree.specs.Calls.Asking.{HeadAt, LengthAt}
-use Rattle.cbor4ii_tree.specs.Inner.Does.{Accepting}
-use Rattle.cbor4ii_tree.specs.declared.value.Value.{Value}
-use Rattle.cbor4ii_tree.specs.Basis.Item.{IsItem, tag}
+use Rattle.cbor4ii_items.specs.{Head.break, Initial.{Simple, simple_byte}}
+use Rattle.cbor4ii_tree.specs.{Calls.Asking.{HeadAt, LengthAt}, Inner.Does.Accepting}
+use Rattle.cbor4ii_tree.specs.{declared.value.Value.Value, Basis.Item.{IsItem, tag}}
 use Rattle.cbor4ii_tree.specs.Basis.Tree.{Tree, Trees, count, bytes, bytes_all}
-use Rattle.cbor4ii_tree.specs.Basis.Meaning.{value, values, simple_item}
-use Rattle.cbor4ii_tree.specs.Basis.Cost.{Budget, step_in}
-use Rattle.cbor4ii_tree.specs.Calls.Rejections.{Rejection, Each, RejectsInCount, IndefiniteItems}
-use Rattle.cbor4ii_tree.specs.Calls.Rejections.{AfterKey, IndefinitePairs}
-use Rattle.cbor4ii_tree.specs.Calls.ReadingRejects.{Readable, ReadingRejectsFrom, ReadingRejects}
+use Rattle.cbor4ii_tree.specs.{Basis.Meaning.{value, values, simple_item}, Basis.Cost.Budget}
+use Rattle.cbor4ii_tree.specs.{Basis.Cost.step_in, Calls.Rejections.{Rejection, Each}}
+use Rattle.cbor4ii_tree.specs.Calls.Rejections.{RejectsInCount, IndefiniteItems, AfterKey}
+use Rattle.cbor4ii_tree.specs.{Calls.Rejections.IndefinitePairs, Calls.ReadingRejects.Readable}
+use Rattle.cbor4ii_tree.specs.Calls.ReadingRejects.{ReadingRejectsFrom, ReadingRejects}
 use Rattle.cbor4ii_tree.specs.Calls.CanonicalRejects.{FitsCanonically, CanonicalRejectsFrom}
-use Rattle.cbor4ii_tree.specs.Calls.CanonicalRejects.{CanonicalRejects}
-use Rattle.cbor4ii_tree.specs.Basis.View.{view, items_view}
+use Rattle.cbor4ii_tree.specs.{Calls.CanonicalRejects.CanonicalRejects, Basis.View.view}
+use Rattle.cbor4ii_tree.specs.Basis.View.{items_view}
 
 -- what is read is a value of the program
 abbrev pub InRange : Value → Type 0

@@ -1,13 +1,10 @@
 -- Answers of the plain programs, taken apart and put together.
 use Rattle.std.proofs.Common.{◌≡◌, ℕ, zero, suc, ◌+◌, ◌-◌, ◌⊎◌, inl, inr, List, Option, Some, None}
 use Rattle.std.proofs.Common.{Ok, Err, Result, refl, ap, arith}
-use Rattle.cbor4ii_items.specs.Budget.{CostFits}
-use Rattle.cbor4ii_items.specs.Reading.{go_on}
-use Rattle.cbor4ii_items.specs.Sequences.{after_step}
-use Rattle.cbor4ii_tree.specs.Basis.Cost.{Budget, step_in}
-use Rattle.cbor4ii_tree.specs.Basis.InputError.{InputError}
-use Rattle.cbor4ii_tree.specs.Calls.Rejections.{Is, RejectsAtStep}
-use Rattle.cbor4ii_tree.specs.Calls.Parse.{Answer, Parser, ◌>>=◌, inside_step}
+use Rattle.cbor4ii_items.specs.{Budget.CostFits, Reading.go_on, Sequences.after_step}
+use Rattle.cbor4ii_tree.specs.{Basis.Cost.{Budget, step_in}, Basis.InputError.InputError}
+use Rattle.cbor4ii_tree.specs.{Calls.Rejections.{Is, RejectsAtStep}, Calls.Parse.{Answer, Parser}}
+use Rattle.cbor4ii_tree.specs.Calls.Parse.{◌>>=◌, inside_step}
 
 pub same_ok : {A E : Type 0} (r : Result A E) (x y : A) → r ≡ Ok x → r ≡ Ok y → x ≡ y
 same_ok r x y p q = cc
@@ -64,9 +61,8 @@ step_left (Some (suc n)) h = let e : suc n - 1 ≡ n = omega arith in rw e refl
 pub step_up : (b inner : Budget) (c : ℕ) → step_in b ≡ Some inner → CostFits c inner
     → CostFits (1 + c) b
 step_up None inner c e f = tt
-step_up (Some zero) inner c e f = cc
-step_up (Some (suc n)) None c e f = cc
 step_up (Some (suc n)) (Some m) c e f = let s : n ≡ m = cc in omega arith
+step_up _ _ c e f = cc
 
 pub stepped_rejects : {A : Type 0} (name : List ℕ) (step : Option Budget) (here : List ℕ)
     (next : Budget → Answer A) (rejects : Budget → InputError → List ℕ → Type 0) (e : InputError)

@@ -1,8 +1,7 @@
 -- Costs that fit budgets.
 use Rattle.std.proofs.Common.{ℕ, ◌+◌, Some, None, arith}
-use Rattle.cbor4ii_items.specs.Budget.{CostFits}
+use Rattle.cbor4ii_items.specs.{Budget.CostFits, Sequences.after_step}
 use Rattle.cbor4ii_tree.specs.Basis.Cost.{Budget}
-use Rattle.cbor4ii_items.specs.Sequences.{after_step}
 
 pub fits_left : (c : ℕ) (b : Budget) → CostFits (1 + c) b → CostFits c (after_step b)
 fits_left c None h = tt

@@ -1,17 +1,13 @@
 -- One input is read canonically in one way, since no loose tree begins another.
 use Rattle.std.proofs.Common.{◌≡◌, ℕ, ◌≤◌, List, ◌++◌, length, take, IsTrue, true, sym, ap, ◌∙◌}
-use Rattle.std.proofs.Common.{subst, arith, length-append}
-use Rattle.std.proofs.lemmas.List.{length-take-le}
+use Rattle.std.proofs.{Common.{subst, arith, length-append}, lemmas.List.length-take-le}
 use Rattle.std.proofs.Math.Seq.{take-append_seam}
-use Rattle.cbor4ii_tree.specs.declared.decode_canonical.Canonical.{Canonical}
-use Rattle.cbor4ii_tree.specs.Basis.Item.{Item}
-use Rattle.cbor4ii_tree.specs.Calls.CanonicalShape.{EncodesCanonically}
-use Rattle.cbor4ii_tree.specs.Basis.View.{view}
-use Rattle.cbor4ii_tree.specs.Calls.Promises.{ReadsValue}
-use Rattle.cbor4ii_tree.specs.Calls.Canonically.{ReadsCanonicalItem, ReadsCanonical}
-use Rattle.cbor4ii_tree.specs.Calls.Canonically.{canonical_format}
-use Rattle.cbor4ii_items.specs.Decoding.{IsLawful}
+use Rattle.cbor4ii_tree.specs.{declared.decode_canonical.Canonical.Canonical, Basis.Item.Item}
+use Rattle.cbor4ii_tree.specs.{Calls.CanonicalShape.EncodesCanonically, Basis.View.view}
+use Rattle.cbor4ii_tree.specs.{Calls.Promises.ReadsValue, Calls.Canonically.ReadsCanonicalItem}
+use Rattle.cbor4ii_tree.specs.Calls.Canonically.{ReadsCanonical, canonical_format}
 use Rattle.cbor4ii_tree.specs.Laws.Values.{value_one, value_positive}
+use Rattle.cbor4ii_items.specs.Decoding.{IsLawful}
 
 -- what is read canonically is read as a value
 as_value : (xs : List ℕ) (v : Item) (n c : ℕ) → ReadsCanonicalItem xs v n c → ReadsValue xs v n c

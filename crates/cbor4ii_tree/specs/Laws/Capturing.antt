@@ -1,15 +1,13 @@
 -- One input is captured in one way.
 use Rattle.std.proofs.Common.{◌≡◌, ℕ, ◌≤◌, List, ◌++◌, length, take, refl, sym, ap, ◌∙◌}
-use Rattle.std.proofs.lemmas.List.{length-take-le}
-use Rattle.std.proofs.Math.Seq.{take-append_seam}
+use Rattle.std.proofs.{lemmas.List.length-take-le, Math.Seq.take-append_seam}
 use Rattle.cbor4ii_tree.specs.Laws.Ignoring.{tree_one, tree_within, tree_positive, tree_alone}
-use Rattle.cbor4ii_tree.specs.Calls.Raw.{ReadsRaw, raw_format}
-use Rattle.cbor4ii_items.specs.Laws.Formats.{lawful_in_memory}
-use Rattle.cbor4ii_tree.specs.Calls.BoxedRaw.{boxed_content, boxed_raw_format}
-use Rattle.cbor4ii_items.specs.Decoding.{IsLawful}
+use Rattle.cbor4ii_tree.specs.{Calls.Raw.{ReadsRaw, raw_format}, Calls.BoxedRaw.boxed_content}
+use Rattle.cbor4ii_tree.specs.Calls.BoxedRaw.{boxed_raw_format}
 use Rattle.cbor4ii_tree.specs.declared.plain_raw.PlainRawValue.{PlainRawValue}
 use Rattle.cbor4ii_tree.specs.Calls.PlainRaw.{ReadsPlainRaw, plain_raw_content, plain_raw_format}
 use Rattle.cbor4ii_tree.specs.Laws.Values.{value_one, value_alone, value_positive}
+use Rattle.cbor4ii_items.specs.{Laws.Formats.lawful_in_memory, Decoding.IsLawful}
 
 pub raw_one : {V : Type 0} (content : V → List ℕ) (xs : List ℕ) (v w : V) (n m c d : ℕ)
     → ReadsRaw content xs v n c → ReadsRaw content xs w m d

@@ -4,9 +4,8 @@ use Rattle.std.proofs.Common.{refl, arith, le-ltb, length-append, take_at, drop_
 use Rattle.std.specs.Int.{bytes_high_first}
 use Rattle.cbor4ii_items.specs.Head.{Width, in_first, one, two, four, eight, HeadFits, additional}
 use Rattle.cbor4ii_items.specs.{Head.{byte_count, head}, Laws.Heads.length-bytes_high_first}
-use Rattle.cbor4ii_tree.specs.{Laws.Numbers.low_bytes}
-use Rattle.cbor4ii_tree.specs.{Calls.Parse.{prefix_at, number_of_width, parse_argument}}
-use Rattle.cbor4ii_tree.specs.Calls.Parse.{argument_of_width}
+use Rattle.cbor4ii_tree.specs.{Laws.Numbers.low_bytes, Calls.Parse.{prefix_at, number_of_width}}
+use Rattle.cbor4ii_tree.specs.Calls.Parse.{parse_argument, argument_of_width}
 
 pub prefix_again : (name : List ℕ) (k : ℕ) (xs x : List ℕ) → length xs ≡ k
     → prefix_at name k (xs ++ x) ≡ Ok (xs, x)

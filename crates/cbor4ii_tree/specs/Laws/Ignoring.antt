@@ -5,11 +5,10 @@ use Rattle.std.proofs.Math.Seq.{take-append_seam, drop-append_seam}
 use Rattle.cbor4ii_items.specs.Decoding.{IsLawful, leaf_format}
 use Rattle.cbor4ii_tree.specs.{Basis.Cost.skip_cost, declared.ignored.IgnoredAny.IgnoredAny}
 use Rattle.cbor4ii_tree.specs.{Calls.Ignored.{ReadsTree, ReadsIgnored}, Laws.Binds.answer_parts}
-use Rattle.cbor4ii_tree.specs.Calls.SkippingRejects.{SkippingRejects}
+use Rattle.cbor4ii_tree.specs.Calls.SkippingRejects.{SkippingRejects, skipping_profile}
 use Rattle.cbor4ii_tree.specs.{Laws.Initials.length-bytes-pos, Laws.ItemAgain.item_again}
-use Rattle.cbor4ii_tree.specs.{Laws.Profiles.skipping_lawful, Calls.Skip.skip}
-use Rattle.cbor4ii_tree.specs.{Calls.SkippingRejects.skipping_profile}
-use Rattle.cbor4ii_tree.specs.Basis.Tree.{Tree, bytes, Loose}
+use Rattle.cbor4ii_tree.specs.{Laws.Profiles.skipping_lawful, Calls.Skip.skip, Basis.Tree.Tree}
+use Rattle.cbor4ii_tree.specs.Basis.Tree.{bytes, Loose}
 
 encoding_again : (t : Tree) (x : List ℕ) → Loose t → skip None (bytes t ++ x) ≡ Ok (t, x)
 encoding_again t x l =

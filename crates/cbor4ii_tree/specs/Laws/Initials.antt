@@ -1,21 +1,17 @@
 -- The initial bytes of trees.
 use Rattle.std.proofs.Common.{◌≡◌, ℕ, ◌+◌, ◌*◌, ◌<◌, ◌≤◌, List, ◌∷◌, length, refl, ap, ◌∙◌, arith}
-use Rattle.cbor4ii_items.specs.Head.{Width, HeadFits, additional, indefinite_head}
-use Rattle.cbor4ii_items.specs.Initial.{Sign, unsigned, negative, sign_major, Kind, byte_string}
-use Rattle.cbor4ii_items.specs.Initial.{text_string, kind_major, Simple, simple_false, simple_true}
-use Rattle.cbor4ii_items.specs.Initial.{simple_null, simple_undefined, simple_byte, Precision, half}
-use Rattle.cbor4ii_items.specs.Initial.{single, double, precision_byte, starts_int, starts_string}
+use Rattle.cbor4ii_items.specs.{Head.{Width, HeadFits, additional, indefinite_head}, Initial.Sign}
+use Rattle.cbor4ii_items.specs.Initial.{unsigned, negative, sign_major, Kind, byte_string}
+use Rattle.cbor4ii_items.specs.Initial.{text_string, kind_major, Simple, simple_false, simple_byte}
+use Rattle.cbor4ii_items.specs.Initial.{Precision, half, precision_byte, starts_int, starts_string}
 use Rattle.cbor4ii_items.specs.Initial.{starts_chunks, starts_array, starts_indefinite_array}
-use Rattle.cbor4ii_items.specs.Initial.{starts_map}
-use Rattle.cbor4ii_items.specs.Initial.{starts_indefinite_map, starts_tag, starts_simple}
-use Rattle.cbor4ii_items.specs.Initial.{starts_bits}
-use Rattle.cbor4ii_items.specs.Initial.{initial, int_by_info, string_by_info, array_by_info}
-use Rattle.cbor4ii_items.specs.Initial.{map_by_info, tag_by_info}
+use Rattle.cbor4ii_items.specs.Initial.{starts_map, starts_indefinite_map, starts_tag}
+use Rattle.cbor4ii_items.specs.Initial.{starts_simple, starts_bits, initial, int_by_info}
+use Rattle.cbor4ii_items.specs.Initial.{string_by_info, array_by_info, map_by_info, tag_by_info}
 use Rattle.cbor4ii_tree.specs.Basis.Tree.{Tree, int, string, chunked, array, array_indefinite}
-use Rattle.cbor4ii_tree.specs.Basis.Tree.{map_of}
-use Rattle.cbor4ii_tree.specs.Basis.Tree.{map_indefinite}
-use Rattle.cbor4ii_tree.specs.Basis.Tree.{tagged, simple, bits, count, pair_count, bytes, Loose}
-use Rattle.cbor4ii_tree.specs.Laws.Numbers.{additional-lt, info-additional, initial-head}
+use Rattle.cbor4ii_tree.specs.Basis.Tree.{map_of, map_indefinite, tagged, simple, bits, count}
+use Rattle.cbor4ii_tree.specs.{Basis.Tree.{pair_count, bytes, Loose}, Laws.Numbers.additional-lt}
+use Rattle.cbor4ii_tree.specs.Laws.Numbers.{info-additional, initial-head}
 
 pub initial_int : (s : Sign) (n : ℕ) (w : Width) → HeadFits w n
     → initial (32 * sign_major s + additional w n) ≡ starts_int s w
@@ -51,15 +47,12 @@ initial_chunks text_string = refl
 pub initial_simple : (s : Simple) → initial (simple_byte s) ≡ starts_simple s
 unfolding initial
 initial_simple simple_false = refl
-initial_simple simple_true = refl
-initial_simple simple_null = refl
-initial_simple simple_undefined = refl
+initial_simple _ = refl
 
 pub initial_bits : (p : Precision) → initial (precision_byte p) ≡ starts_bits p
 unfolding initial
 initial_bits half = refl
-initial_bits single = refl
-initial_bits double = refl
+initial_bits _ = refl
 
 pub initial_indefinite_array : initial (indefinite_head 4) ≡ starts_indefinite_array
 unfolding initial
@@ -82,20 +75,17 @@ pub kind_below : (k : Kind) → kind_major k < 7
 kind_below byte_string = omega arith
 kind_below text_string = omega arith
 
-sign_below : (s : Sign) → sign_major s < 7
+pub sign_below : (s : Sign) → sign_major s < 7
 sign_below unsigned = omega arith
 sign_below negative = omega arith
 
 simple_below : (s : Simple) → simple_byte s < 255
 simple_below simple_false = omega arith
-simple_below simple_true = omega arith
-simple_below simple_null = omega arith
-simple_below simple_undefined = omega arith
+simple_below _ = omega arith
 
 precision_below : (p : Precision) → precision_byte p < 255
 precision_below half = omega arith
-precision_below single = omega arith
-precision_below double = omega arith
+precision_below _ = omega arith
 
 pub begins : (t : Tree) → Loose t → BeginsNoBreak (bytes t)
 begins (int s n w) l = (_, _, refl, head_below (sign_major s) n w (sign_below s) l)
@@ -114,5 +104,4 @@ begins (bits p n) l = (_, _, refl, precision_below p)
 
 pub length-bytes-pos : (t : Tree) → 1 ≤ length (bytes t)
 length-bytes-pos (int s n w) = omega arith
-length-bytes-pos (simple s) = omega arith
 length-bytes-pos _ = omega arith

@@ -6,13 +6,11 @@ use Rattle.std.specs.Int.{bytes_high_first}
 use Rattle.cbor4ii_items.specs.Head.{Width, HeadFits, byte_count, break, additional}
 use Rattle.cbor4ii_items.specs.Initial.{sign_major, Kind, byte_string, text_string, kind_major}
 use Rattle.cbor4ii_items.specs.Initial.{precision_bytes, Initial, starts_string, initial}
-use Rattle.cbor4ii_tree.specs.{Basis.Cost.Budget, Basis.InputError.tag_name}
-use Rattle.cbor4ii_tree.specs.{Calls.ItemAt.{tested_string, string_tree_at}}
-use Rattle.cbor4ii_tree.specs.Calls.ItemAt.{chunk_tree_by, chunk_tree_at, item_by, item_from}
-use Rattle.cbor4ii_tree.specs.Calls.ItemAt.{item_within}
-use Rattle.cbor4ii_tree.specs.{Calls.ItemRejects.{Profile, ChunkOf}}
 use Rattle.cbor4ii_items.specs.Sequences.{after_step}
-use Rattle.cbor4ii_tree.specs.Laws.Binds.{step_left}
+use Rattle.cbor4ii_tree.specs.{Basis.Cost.Budget, Basis.InputError.tag_name}
+use Rattle.cbor4ii_tree.specs.Calls.ItemAt.{tested_string, string_tree_at, chunk_tree_by}
+use Rattle.cbor4ii_tree.specs.Calls.ItemAt.{chunk_tree_at, item_by, item_from, item_within}
+use Rattle.cbor4ii_tree.specs.{Calls.ItemRejects.{Profile, ChunkOf}, Laws.Binds.step_left}
 use Rattle.cbor4ii_tree.specs.Laws.HeadsAgain.{prefix_again, argument_again, number_again}
 use Rattle.cbor4ii_tree.specs.Laws.Initials.{begins, initial_int, initial_string, initial_array}
 use Rattle.cbor4ii_tree.specs.Laws.Initials.{initial_map, initial_tag, initial_chunks}
@@ -20,12 +18,11 @@ use Rattle.cbor4ii_tree.specs.Laws.Initials.{initial_simple, initial_bits, initi
 use Rattle.cbor4ii_tree.specs.{Laws.Initials.initial_indefinite_map, Laws.PartsAgain.Again}
 use Rattle.cbor4ii_tree.specs.Laws.PartsAgain.{StartNoBreak, trees_again, pairs_again}
 use Rattle.cbor4ii_tree.specs.Laws.PartsAgain.{indefinite_trees_again, indefinite_pairs_again}
-use Rattle.cbor4ii_tree.specs.{Laws.Profiles.{Tested, HasWholeParts, IsLawfulProfile}}
-use Rattle.cbor4ii_tree.specs.{Calls.Parse.Parser, Basis.Tree.Tree}
-use Rattle.cbor4ii_tree.specs.Basis.Tree.{int, string, chunked, array, array_indefinite, map_of}
-use Rattle.cbor4ii_tree.specs.Basis.Tree.{map_indefinite, tagged, simple, bits, count, pair_count}
-use Rattle.cbor4ii_tree.specs.Basis.Tree.{bytes}
-use Rattle.cbor4ii_tree.specs.Basis.Tree.{bytes_all, bytes_pairs, joined_chunks}
+use Rattle.cbor4ii_tree.specs.Laws.Profiles.{Tested, HasWholeParts, IsLawfulProfile}
+use Rattle.cbor4ii_tree.specs.{Calls.Parse.Parser, Basis.Tree.{Tree, int, string, chunked, array}}
+use Rattle.cbor4ii_tree.specs.Basis.Tree.{array_indefinite, map_of, map_indefinite, tagged, simple}
+use Rattle.cbor4ii_tree.specs.Basis.Tree.{bits, count, pair_count, bytes, bytes_all, bytes_pairs}
+use Rattle.cbor4ii_tree.specs.Basis.Tree.{joined_chunks}
 
 -- after the initial byte, and after the head
 pub following_head : (xs ys x : List ℕ) (n : ℕ) → suc (length ((xs ++ ys) ++ x)) < suc n
@@ -42,8 +39,7 @@ after_indefinite xs x n h = omega (arith, ap length (append_assoc xs (break ∷ 
 tested_again : (tests : Bool) (k : Kind) (content : List ℕ) (t : Tree) (x : List ℕ)
     → Tested tests k content → tested_string tests k content t x ≡ Ok (t, x)
 tested_again true text_string content t x h = rw (is_utf8-from_IsUtf8 content h) refl
-tested_again true byte_string content t x h = refl
-tested_again false k content t x h = refl
+tested_again _ _ content t x h = refl
 
 string_again : (name : List ℕ) (k : Kind) (w : Width) (content x : List ℕ)
     → HeadFits w (length content) → string_tree_at name w (32 * kind_major k + additional w
@@ -61,8 +57,7 @@ chunk_by_again byte_string byte_string w content x e l =
     rw (string_again _ byte_string w content x l) refl
 chunk_by_again text_string text_string w content x e l =
     rw (string_again _ text_string w content x l) refl
-chunk_by_again byte_string text_string w content x e l = cc
-chunk_by_again text_string byte_string w content x e l = cc
+chunk_by_again _ _ w content x e l = cc
 
 pub chunk_again : (tests : Bool) (k : Kind) (b : Budget) (item : Parser Tree)
     (Whole : Tree → Type 0) (bound : ℕ) → Again item Whole bound

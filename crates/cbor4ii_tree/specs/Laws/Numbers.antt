@@ -1,12 +1,10 @@
 -- Heads, read back.
 use Rattle.std.proofs.Common.{◌≡◌, ℕ, zero, suc, ◌+◌, ◌*◌, ◌/◌, ◌%◌, ◌^◌, ◌<◌, fold, refl, ◌∙◌}
-use Rattle.std.proofs.Common.{arith, pow-suc, mul_comm, lt-ltb}
-use Rattle.std.proofs.Math.Nat.{pow-le-pow_right}
+use Rattle.std.proofs.{Common.{arith, pow-suc, mul_comm, lt-ltb}, Math.Nat.pow-le-pow_right}
 use Rattle.std.proofs.Math.Arith.{mod-mul}
 use Rattle.std.specs.Int.{byte_at, bytes_high_first}
-use Rattle.cbor4ii_items.specs.Head.{Width, in_first, one, two, four, eight, HeadFits, additional}
-use Rattle.cbor4ii_items.specs.Initial.{wide, info_of, initial, by_major}
-use Rattle.cbor4ii_items.specs.Magnitude.{number_of}
+use Rattle.cbor4ii_items.specs.{Head.{Width, in_first, HeadFits, additional}, Initial.wide}
+use Rattle.cbor4ii_items.specs.{Initial.{info_of, initial, by_major}, Magnitude.number_of}
 
 -- one more byte in front of the low k bytes
 byte_on : (k n high : ℕ)
@@ -29,17 +27,11 @@ low_bytes k n = bytes_read k n 0 ∙ omega arith
 
 pub additional-lt : (n : ℕ) (w : Width) → HeadFits w n → additional w n < 32
 additional-lt n in_first h = omega arith
-additional-lt n one h = omega arith
-additional-lt n two h = omega arith
-additional-lt n four h = omega arith
-additional-lt n eight h = omega arith
+additional-lt n _ h = omega arith
 
 pub info-additional : (n : ℕ) (w : Width) → HeadFits w n → info_of (additional w n) ≡ wide w
 info-additional n in_first h = rw (lt-ltb n 24 (omega arith)) refl
-info-additional n one h = refl
-info-additional n two h = refl
-info-additional n four h = refl
-info-additional n eight h = refl
+info-additional n _ h = refl
 
 -- the two parts of an initial byte
 pub initial_parts : (major i : ℕ) → i < 32 → initial (32 * major + i) ≡ by_major major i

@@ -5,10 +5,8 @@ use Rattle.cbor4ii_items.specs.Head.{break}
 use Rattle.cbor4ii_tree.specs.{Laws.Initials.{BeginsNoBreak, length-bytes-pos}, Calls.Parse.Parser}
 use Rattle.cbor4ii_tree.specs.Calls.Parse.{◌>>=◌, trees_at, pairs_at, indefinite_trees_at}
 use Rattle.cbor4ii_tree.specs.{Calls.Parse.indefinite_pairs_at, Calls.Rejections.{Each, EachPair}}
-use Rattle.cbor4ii_tree.specs.{Basis.Tree.Tree}
-use Rattle.cbor4ii_tree.specs.Basis.Tree.{Trees, no_trees, tree, Pairs, no_pairs, pair, count}
-use Rattle.cbor4ii_tree.specs.Basis.Tree.{pair_count}
-use Rattle.cbor4ii_tree.specs.Basis.Tree.{bytes, bytes_all, bytes_pairs}
+use Rattle.cbor4ii_tree.specs.Basis.Tree.{Tree, Trees, no_trees, tree, Pairs, no_pairs, pair, count}
+use Rattle.cbor4ii_tree.specs.Basis.Tree.{pair_count, bytes, bytes_all, bytes_pairs}
 
 -- below so many bytes, whole items are read back
 abbrev pub Again : Parser Tree → (Tree → Type 0) → ℕ → Type 0
@@ -121,14 +119,8 @@ module _ (item : Parser Tree) (Whole : Tree → Type 0) (bound : ℕ) (a : Again
         subst (λ y. length y < bound) same lt in
         let lt3 : length (bytes v ++ rest) < bound =
         shorter (bytes k) (bytes v ++ rest) bound lt2 in
-        let fewer : length rest ≤ n = omega (
-          arith,
-          ap length same,
-          length-append (bytes k)
-              (bytes v ++ rest),
-          length-append (bytes v) rest,
-          length-bytes-pos k,
-        ) in
+        let fewer : length rest ≤ n =
+        omega (arith, ap length same, length-append {A = ℕ}, length-bytes-pos) in
         ap (indefinite_pairs_at item (suc n)) same
         ∙ (indefinite_pair_turn item n (bytes k) (bytes v ++ rest) (s k w.0)
         ∙ rw (

@@ -4,23 +4,20 @@ use Rattle.std.proofs.Common.{◌≡◌, ℕ, ◌+◌, ◌^◌, ◌<◌, List, l
 use Rattle.std.proofs.Common.{refl, subst, arith, ◌≤◌}
 use Rattle.cbor4ii_items.specs.{Budget.CostFits, Head.HeadFits, Initial.{Kind, precision_bytes}}
 use Rattle.cbor4ii_items.specs.{Laws.Answering.fits_zero, Laws.SequenceParts.fits_less}
-use Rattle.cbor4ii_tree.specs.Basis.Cost.{Budget, step_in, cost, skip_cost, chunks_cost}
-use Rattle.cbor4ii_tree.specs.Basis.Cost.{greatest_cost}
-use Rattle.cbor4ii_tree.specs.{Calls.ItemRejects.{Profile, ReadableChunk, ChunkOf}}
 use Rattle.cbor4ii_items.specs.Sequences.{after_step}
-use Rattle.cbor4ii_tree.specs.{Laws.Binds.{step_left, step_up}, Laws.Budgets.{fits_left, fits_two}}
-use Rattle.cbor4ii_tree.specs.Laws.Wholes.{each_readable, each_pair_readable, each_chunk}
-use Rattle.cbor4ii_tree.specs.Laws.Wholes.{each_skippable, each_pair_skippable, all_readable}
-use Rattle.cbor4ii_tree.specs.Laws.Wholes.{all_pairs_readable, all_chunks, all_skippable}
-use Rattle.cbor4ii_tree.specs.{Laws.Wholes.all_pairs_skippable}
-use Rattle.cbor4ii_tree.specs.{Calls.ReadingRejects.{Readable, reading_profile}}
-use Rattle.cbor4ii_tree.specs.{Calls.Rejections.{Each, EachPair}}
-use Rattle.cbor4ii_tree.specs.{Calls.SkippingRejects.{Skippable, skipping_profile}}
-use Rattle.cbor4ii_tree.specs.Basis.Tree.{Tree, int, string, chunked, array, array_indefinite}
-use Rattle.cbor4ii_tree.specs.Basis.Tree.{map_of}
+use Rattle.cbor4ii_tree.specs.Basis.Cost.{Budget, step_in, cost, skip_cost, chunks_cost}
+use Rattle.cbor4ii_tree.specs.{Basis.Cost.greatest_cost, Calls.ItemRejects.{Profile, ReadableChunk}}
+use Rattle.cbor4ii_tree.specs.{Calls.ItemRejects.ChunkOf, Laws.Binds.{step_left, step_up}}
+use Rattle.cbor4ii_tree.specs.{Laws.Budgets.{fits_left, fits_two}, Laws.Wholes.each_readable}
+use Rattle.cbor4ii_tree.specs.Laws.Wholes.{each_pair_readable, each_chunk, each_skippable}
+use Rattle.cbor4ii_tree.specs.Laws.Wholes.{each_pair_skippable, all_readable, all_pairs_readable}
+use Rattle.cbor4ii_tree.specs.Laws.Wholes.{all_chunks, all_skippable, all_pairs_skippable}
+use Rattle.cbor4ii_tree.specs.Calls.ReadingRejects.{Readable, reading_profile}
+use Rattle.cbor4ii_tree.specs.{Calls.Rejections.{Each, EachPair}, Calls.SkippingRejects.Skippable}
+use Rattle.cbor4ii_tree.specs.{Calls.SkippingRejects.skipping_profile, Basis.Tree.{Tree, int}}
+use Rattle.cbor4ii_tree.specs.Basis.Tree.{string, chunked, array, array_indefinite, map_of}
 use Rattle.cbor4ii_tree.specs.Basis.Tree.{map_indefinite, tagged, simple, bits, Trees, no_trees}
-use Rattle.cbor4ii_tree.specs.Basis.Tree.{tree}
-use Rattle.cbor4ii_tree.specs.Basis.Tree.{count, pair_count, joined_chunks, Loose, AreChunks}
+use Rattle.cbor4ii_tree.specs.Basis.Tree.{tree, count, pair_count, joined_chunks, Loose, AreChunks}
 use Rattle.cbor4ii_tree.specs.Basis.Tree.{TextIsUtf8}
 
 -- a text is UTF-8, where it is tested

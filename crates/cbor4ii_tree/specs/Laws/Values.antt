@@ -1,19 +1,12 @@
 -- One input is read in one way, since no loose tree begins another.
 use Rattle.std.proofs.Common.{◌≡◌, ℕ, ◌≤◌, List, ◌++◌, length, take, drop, IsTrue, true, sym, ap}
 use Rattle.std.proofs.Common.{◌∙◌, subst, arith, length-append, take-append-drop}
-use Rattle.std.proofs.lemmas.List.{length-take-le}
-use Rattle.std.proofs.Math.Seq.{take-append_seam}
-use Rattle.cbor4ii_tree.specs.declared.value.Value.{Value}
-use Rattle.cbor4ii_tree.specs.Basis.Tree.{bytes}
-use Rattle.cbor4ii_tree.specs.Basis.Item.{Item}
-use Rattle.cbor4ii_tree.specs.Basis.Meaning.{value}
-use Rattle.cbor4ii_tree.specs.Basis.Cost.{cost}
-use Rattle.cbor4ii_tree.specs.Basis.Encodings.{Encodes}
-use Rattle.cbor4ii_tree.specs.Basis.View.{view}
-use Rattle.cbor4ii_tree.specs.Calls.Promises.{ReadsValue, value_format}
+use Rattle.std.proofs.{lemmas.List.length-take-le, Math.Seq.take-append_seam}
+use Rattle.cbor4ii_tree.specs.{declared.value.Value.Value, Basis.Tree.bytes, Basis.Item.Item}
+use Rattle.cbor4ii_tree.specs.{Basis.Meaning.value, Basis.Cost.cost, Basis.Encodings.Encodes}
+use Rattle.cbor4ii_tree.specs.{Basis.View.view, Calls.Promises.{ReadsValue, value_format}}
+use Rattle.cbor4ii_tree.specs.{Laws.Ignoring.one_encoding, Laws.Initials.length-bytes-pos}
 use Rattle.cbor4ii_items.specs.Decoding.{IsLawful}
-use Rattle.cbor4ii_tree.specs.Laws.Ignoring.{one_encoding}
-use Rattle.cbor4ii_tree.specs.Laws.Initials.{length-bytes-pos}
 
 -- so many bytes are those of the tree
 pub size_is : (xs : List ℕ) (v : Item) (n c : ℕ) → (p : ReadsValue xs v n c)

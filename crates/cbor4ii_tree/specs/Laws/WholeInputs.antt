@@ -1,16 +1,13 @@
 -- Inputs that are read as one item, in the words of encodings.
-use Rattle.std.proofs.Common.{◌≡◌, ℕ, ◌≤◌, List, [], take, length, Some, sym, subst, ◌∙◌}
-use Rattle.std.proofs.Common.{arith}
-use Rattle.std.specs.Prelude.{◌↔◌}
+use Rattle.std.proofs.Common.{◌≡◌, ℕ, ◌≤◌, List, [], take, length, Some, sym, subst, ◌∙◌, arith}
 use Rattle.std.proofs.lemmas.List.{take_all, append-nil}
+use Rattle.std.specs.Prelude.{◌↔◌}
 use Rattle.cbor4ii_rw.specs.Input.{limit}
 use Rattle.cbor4ii_items.specs.Whole.{IsWhole}
 use Rattle.cbor4ii_tree.specs.Basis.Encodings.{Encodes, DecodesTo}
 use Rattle.cbor4ii_tree.specs.Calls.CanonicalShape.{EncodesCanonically, DecodesCanonically}
-use Rattle.cbor4ii_tree.specs.Calls.Promises.{value_format}
-use Rattle.cbor4ii_tree.specs.Calls.Canonically.{canonical_format}
-use Rattle.cbor4ii_tree.specs.Basis.View.{view}
-use Rattle.cbor4ii_tree.specs.declared.value.Value.{Value}
+use Rattle.cbor4ii_tree.specs.{Calls.Promises.value_format, Calls.Canonically.canonical_format}
+use Rattle.cbor4ii_tree.specs.{Basis.View.view, declared.value.Value.Value}
 use Rattle.cbor4ii_tree.specs.declared.decode_canonical.Canonical.{Canonical}
 
 at_most : (n : ℕ) → n ≤ n

@@ -1,16 +1,12 @@
 -- Lists of trees that are accepted, each by itself or all together.
 use Rattle.std.proofs.Common.{arith}
-use Rattle.cbor4ii_items.specs.Initial.{Kind}
+use Rattle.cbor4ii_items.specs.{Initial.Kind, Budget.CostFits, Laws.Answering.fits_zero}
+use Rattle.cbor4ii_items.specs.Laws.SequenceParts.{fits_less, fits_max}
 use Rattle.cbor4ii_tree.specs.Basis.Tree.{Trees, no_trees, tree, Pairs, no_pairs, pair, LooseAll}
 use Rattle.cbor4ii_tree.specs.Basis.Tree.{LoosePairs, SoundStringsAll, SoundStringsPairs, AreChunks}
-use Rattle.cbor4ii_items.specs.Budget.{CostFits}
-use Rattle.cbor4ii_items.specs.Laws.Answering.{fits_zero}
-use Rattle.cbor4ii_items.specs.Laws.SequenceParts.{fits_less, fits_max}
 use Rattle.cbor4ii_tree.specs.Basis.Cost.{Budget, cost, greatest_cost, greatest_pair_cost}
-use Rattle.cbor4ii_tree.specs.Basis.Cost.{skip_cost}
-use Rattle.cbor4ii_tree.specs.Basis.Cost.{greatest_skip_cost, greatest_pair_skip_cost}
-use Rattle.cbor4ii_tree.specs.Calls.Rejections.{Each, EachPair}
-use Rattle.cbor4ii_tree.specs.Calls.SkippingRejects.{Skippable}
+use Rattle.cbor4ii_tree.specs.Basis.Cost.{skip_cost, greatest_skip_cost, greatest_pair_skip_cost}
+use Rattle.cbor4ii_tree.specs.{Calls.Rejections.{Each, EachPair}, Calls.SkippingRejects.Skippable}
 use Rattle.cbor4ii_tree.specs.Calls.ReadingRejects.{Readable, ReadableChunk}
 
 pub each_skippable : (ts : Trees) (b : Budget) → LooseAll ts → CostFits (greatest_skip_cost ts) b

@@ -1,5 +1,5 @@
 use Rattle.std.proofs.Common.{◌∙◌, sym, refl}
-use Rattle.cbor4ii_tree.proofs.values.Access.{find_text-here, find_text-past}
+use Rattle.cbor4ii_tree.proofs.values.Keys.{find_text-here, find_text-past}
 use Rattle.cbor4ii_tree.proofs.access.find.Goals as goal
 
 pub returns-then-is_text : goal.returns-then-is_text

@@ -1,5 +1,5 @@
 use Rattle.std.proofs.Common.{arith, refl, sym, ◌∙◌}
-use Rattle.cbor4ii_tree.proofs.skip_calls.Glancing.{sees_alone}
+use Rattle.cbor4ii_tree.proofs.skip_calls.Leaves.{sees_alone}
 use Rattle.cbor4ii_tree.specs.declared.skip.initial.Start.TheVariants as start
 use Rattle.cbor4ii_tree.proofs.ahead.indefinite_head_of.Goals as goal
 

@@ -1,5 +1,5 @@
 use Rattle.std.proofs.{Common.{arith, refl, sym, ◌∙◌, w8}, Math.Facts.Fits-lt-pow}
-use Rattle.cbor4ii_tree.proofs.skip_calls.{Leaves.shown_bytes, Glancing.{sees_head, sees_content}}
+use Rattle.cbor4ii_tree.proofs.skip_calls.Leaves.{shown_bytes, sees_head, sees_content}
 use Rattle.cbor4ii_tree.specs.declared.skip.initial.Start.TheVariants as start
 use Rattle.cbor4ii_tree.proofs.ahead.wide_head_of.Goals as goal
 

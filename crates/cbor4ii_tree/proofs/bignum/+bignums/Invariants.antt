@@ -1,8 +1,7 @@
 use Rattle.std.proofs.Common.{◌≡◌, ◌+◌, ◌*◌, take}
-use Rattle.cbor4ii_tree.specs.{Basis.Canonical.{with_bignums_all, with_bignums_pairs}}
-use Rattle.cbor4ii_tree.specs.{Basis.Item.size}
-use Rattle.cbor4ii_tree.specs.{Basis.Item.{size_all, size_pairs}}
-use Rattle.cbor4ii_tree.specs.{Basis.View.{view, items_view, pairs_view}}
+use Rattle.cbor4ii_tree.specs.Basis.Canonical.{with_bignums_all, with_bignums_pairs}
+use Rattle.cbor4ii_tree.specs.{Basis.Item.{size, size_all, size_pairs}, Basis.View.view}
+use Rattle.cbor4ii_tree.specs.Basis.View.{items_view, pairs_view}
 use Rattle.cbor4ii_tree.proofs.bignum.+bignums.Given as goal
 
 abbrev pub invariant-tag_items-loop-i : goal.invariant-tag_items-loop-i

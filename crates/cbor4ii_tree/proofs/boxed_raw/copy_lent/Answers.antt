@@ -1,7 +1,7 @@
 use Rattle.std.proofs.Common.{inl, inr, refl, ap, ◌∙◌, take, List, ℕ}
 use Rattle.cbor4ii_tree.specs.Calls.BoxedRaw.{boxed_content}
-use Rattle.cbor4ii_tree.proofs.raw_items.{Copied.none_read, Unlent.none_rejects, Captured.captured}
-use Rattle.cbor4ii_tree.proofs.raw_items.Captured.{rejected_in}
+use Rattle.cbor4ii_tree.proofs.{raw_items.Copied.none_read, raw_items.Captured.none_rejects}
+use Rattle.cbor4ii_tree.proofs.raw_items.Captured.{captured, rejected_in}
 use Rattle.cbor4ii_tree.proofs.boxed_raw.copy_lent.Goals as goal
 
 pub returns-in-Ok-from_slice-clause-copies : goal.returns-in-Ok-from_slice-clause-copies

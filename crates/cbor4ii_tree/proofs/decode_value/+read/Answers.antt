@@ -1,33 +1,29 @@
-use Rattle.std.proofs.Common.{inl, inr, refl, sym, ap, subst, arith, ◌∙◌, ◌∷◌, [], false, true, Vec}
-use Rattle.std.proofs.Common.{Global, Some}
-use Rattle.cbor4ii_items.specs.{Laws.Running.kept_alike, Laws.Steps.kept_then}
-use Rattle.cbor4ii_tree.specs.{Inner.Does.error_left, Basis.InputError.value_name}
-use Rattle.cbor4ii_tree.specs.{Basis.Item.{IsItem, tag}}
-use Rattle.cbor4ii_tree.specs.{Inner.LeafRuns.pair_values}
-use Rattle.cbor4ii_tree.specs.{Inner.Valuing.{flat_values, ReadsUnder, RejectsOf}}
-use Rattle.cbor4ii_tree.specs.{Basis.View.view, declared.value.Value.{Tag, Value}}
+use Rattle.std.proofs.Common.{rules, inl, inr, refl, sym, ap, subst, arith, ◌∙◌, ◌∷◌, [], false}
+use Rattle.std.proofs.Common.{true, Vec, Global, Some}
+use Rattle.cbor4ii_items.specs.Laws.{Running.kept_alike, Steps.kept_then}
+use Rattle.cbor4ii_tree.specs.Inner.{Does.error_left, LeafRuns.pair_values, Valuing.flat_values}
+use Rattle.cbor4ii_tree.specs.Inner.Valuing.{ReadsUnder, RejectsOf}
+use Rattle.cbor4ii_tree.specs.Basis.{InputError.value_name, Item.{IsItem, tag}, View.view}
+use Rattle.cbor4ii_tree.specs.declared.value.Value.{Tag, Value}
 use Rattle.cbor4ii_tree.proofs.skip_calls.Doing.{reached_by, does_ok, does_no_memory, does_no_step}
 use Rattle.cbor4ii_tree.proofs.skip_calls.Doing.{refused, reached_as, still_rejected}
 use Rattle.cbor4ii_tree.proofs.values.ByHead.{peeks_next, after_next, next_first}
-use Rattle.cbor4ii_tree.proofs.values.{Calls.value_no_step, Encoding.view-Tag}
-use Rattle.cbor4ii_tree.proofs.values.Heads.{major_arm, tag_does, tagged_ok}
-use Rattle.cbor4ii_tree.proofs.values.{Items.{items_are, items_none}, LeafRuns.{flat-push, ran}}
-use Rattle.cbor4ii_tree.proofs.values.LeafRuns.{none_read, ReadEach, one_item, none_too_many}
-use Rattle.cbor4ii_tree.proofs.values.LeafRuns.{run_rejects, stop_alone, both_there, pairs_are}
-use Rattle.cbor4ii_tree.proofs.values.LeafRuns.{pairs_are_read, turn_unstepped, turn_rejected}
-use Rattle.cbor4ii_tree.proofs.values.LeafRuns.{turn_ends, run_before, on_found}
+use Rattle.cbor4ii_tree.proofs.values.{Calls.value_no_step, Encoding.view-Tag, Heads.major_arm}
+use Rattle.cbor4ii_tree.proofs.values.{Heads.{tag_does, tagged_ok}, InRange.{items_are, items_none}}
+use Rattle.cbor4ii_tree.proofs.values.LeafRuns.{flat-push, ran, none_read, ReadEach, one_item}
+use Rattle.cbor4ii_tree.proofs.values.LeafRuns.{none_too_many, run_rejects, stop_alone, both_there}
+use Rattle.cbor4ii_tree.proofs.values.LeafRuns.{pairs_are, pairs_are_read, turn_unstepped}
+use Rattle.cbor4ii_tree.proofs.values.LeafRuns.{turn_rejected, turn_ends, run_before, on_found}
 use Rattle.cbor4ii_tree.proofs.values.Sequences.{break_taken, no_break_yet, no_byte_left, put_read}
-use Rattle.cbor4ii_tree.proofs.values.Sequences.{value_stops, pair_stops, pair_read}
-use Rattle.cbor4ii_tree.proofs.values.Sequences.{value_rejected, none_follow, parts_deep}
+use Rattle.cbor4ii_tree.proofs.values.Sequences.{value_stops, pair_stops, pair_read, value_rejected}
+use Rattle.cbor4ii_tree.proofs.values.Sequences.{none_follow, parts_deep, made_of}
 use Rattle.cbor4ii_tree.proofs.values.Gives.{gives_err, gives_on, gives_as, value_stepped}
-use Rattle.cbor4ii_tree.proofs.values.Gives.{second_stepped, items_stepped, item_put}
-use Rattle.cbor4ii_tree.proofs.values.Gives.{counted_gives, look_gives, no_want, as_found, as_left}
-use Rattle.cbor4ii_tree.proofs.values.Gives.{counted_made, opened_made}
-use Rattle.cbor4ii_tree.proofs.values.Asking.{asks_after, asks_as, asks_here, in_any, in_first}
-use Rattle.cbor4ii_tree.proofs.values.Asking.{in_further, in_next, in_string, in_tagged}
-use Rattle.cbor4ii_tree.proofs.values.Asking.{not_wanted, put_grows, turn_asks, value_is}
+use Rattle.cbor4ii_tree.proofs.values.Gives.{second_stepped, items_stepped, item_put, counted_gives}
+use Rattle.cbor4ii_tree.proofs.values.Gives.{look_gives, no_want, as_found, as_left, counted_made}
+use Rattle.cbor4ii_tree.proofs.values.{Gives.opened_made, Asking.{asks_after, asks_as, asks_here}}
+use Rattle.cbor4ii_tree.proofs.values.Asking.{in_any, in_first, in_further, in_next, in_string}
+use Rattle.cbor4ii_tree.proofs.values.Asking.{in_tagged, not_wanted, put_grows, turn_asks, value_is}
 use Rattle.cbor4ii_tree.proofs.values.Asking.{values_are}
-use Rattle.cbor4ii_tree.proofs.values.Sequences.{made_of}
 use Rattle.cbor4ii_tree.proofs.decode_value.+read.Goals.{array_inside-in-Some, array_inside-in-None}
 use Rattle.cbor4ii_tree.proofs.decode_value.+read.Goals.{map_inside-in-Some, map_inside-in-None}
 use Rattle.cbor4ii_tree.proofs.decode_value.+read.Goals as goal
@@ -298,10 +294,13 @@ read_value-returns g t c =
     c.step_out.ensures.budget c.step_out.ensures.others
     c.read_inside-outcome.ensures
 
-pub definite_pairs-returns-then-not-make_room-clause-does :
-    goal.definite_pairs-returns-then-not-make_room-clause-does
-definite_pairs-returns-then-not-make_room-clause-does g t c =
-    does_no_memory _ _ refl (kept_alike _)
+pub definite_pairs-returns-then-not-make_room : goal.definite_pairs-returns-then-not-make_room
+definite_pairs-returns-then-not-make_room g t c = record {
+  does = does_no_memory _ _ refl (kept_alike _);
+  memory = λ want.
+      asks_here _ (λ xs ys h. inl (0, omega arith, values_are _ _ [] xs ys h)) (none_read _ _ [] refl);
+  items = search rules;
+}
 
 pub read_value-returns-then-not-step_in : goal.read_value-returns-then-not-step_in
 read_value-returns-then-not-step_in g t c =
@@ -529,11 +528,6 @@ definite_items-returns-in_err-more_items-clause-memory g t c =
     rw c.from_residual.ensures (λ want. asks_after (λ xs us ys h s. in_any _ xs ys (in_further _ xs
     us ys (values_are _ _ _ xs us h) s)) c.loop-alloc.invariant.reached
     (c.in_err-more_items.ensures.memory want))
-
-pub definite_pairs-returns-then-not-make_room-clause-memory :
-    goal.definite_pairs-returns-then-not-make_room-clause-memory
-definite_pairs-returns-then-not-make_room-clause-memory g t c want =
-    asks_here _ (λ xs ys h. inl (0, omega arith, values_are _ _ [] xs ys h)) (none_read _ _ [] refl)
 
 pub definite_pairs-returns-in_err-more_pairs-clause-memory :
     goal.definite_pairs-returns-in_err-more_pairs-clause-memory

@@ -3,15 +3,14 @@ use Rattle.std.proofs.lemmas.Int.{to_z-of_z}
 use Rattle.std.specs.Prelude.{string_bytes}
 use mir.Syntax.{w128}
 use mir.Val.{to_z, of_z}
-use Rattle.cbor4ii_items.specs.Laws.SequenceBytes.{items_then, items_err}
-use Rattle.cbor4ii_items.specs.Laws.Written.{writes_then, writes_err, writes_as, appends_then}
-use Rattle.cbor4ii_tree.specs.{Basis.Item.integer, Basis.View.view}
-use Rattle.cbor4ii_tree.specs.{Basis.Canonical.canonical_encoding}
+use Rattle.cbor4ii_items.specs.Laws.{SequenceBytes.{items_then, items_err}, Written.writes_then}
+use Rattle.cbor4ii_items.specs.Laws.Written.{writes_err, writes_as, appends_then}
+use Rattle.cbor4ii_tree.specs.Basis.{Item.integer, View.view, Canonical.canonical_encoding}
 use Rattle.cbor4ii_tree.specs.Calls.Encoding.{value_bytes, value_pair_bytes}
 use Rattle.cbor4ii_tree.proofs.values.Encoding.{Tag-bytes, Bool-bytes, view-Integer, Array-bytes}
-use Rattle.cbor4ii_tree.proofs.{values.Encoding.Map-bytes, values.InRange.items_step}
-use Rattle.cbor4ii_tree.proofs.values.InRange.{pairs_step, array_in_range, map_in_range}
-use Rattle.cbor4ii_tree.proofs.{values.InRange.text_in_range, values.Sent.{on_some, on_any_some}}
+use Rattle.cbor4ii_tree.proofs.values.Encoding.{Map-bytes, on_some, on_any_some}
+use Rattle.cbor4ii_tree.proofs.values.InRange.{items_step, pairs_step, array_in_range, map_in_range}
+use Rattle.cbor4ii_tree.proofs.values.InRange.{text_in_range}
 use Rattle.cbor4ii_tree.proofs.encode_value.+put.Goals as goal
 
 pub put_items-returns-in_err-put_value-clause-writes :

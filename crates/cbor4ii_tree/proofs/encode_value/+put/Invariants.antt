@@ -1,9 +1,8 @@
 use Rattle.std.proofs.Common.{◌≡◌, take}
 use Rattle.cbor4ii_rw.specs.Writer.{Appends}
 use Rattle.cbor4ii_items.specs.SequenceBytes.{items_bytes}
-use Rattle.cbor4ii_tree.specs.{Calls.Encoding.{value_bytes, value_pair_bytes}}
-use Rattle.cbor4ii_tree.specs.{Basis.Item.{AreItems, AreItemPairs}}
-use Rattle.cbor4ii_tree.specs.Basis.View.{items_view, pairs_view}
+use Rattle.cbor4ii_tree.specs.{Calls.Encoding.{value_bytes, value_pair_bytes}, Basis.Item.AreItems}
+use Rattle.cbor4ii_tree.specs.{Basis.Item.AreItemPairs, Basis.View.{items_view, pairs_view}}
 use Rattle.cbor4ii_tree.proofs.encode_value.+put.Given as goal
 
 -- so many were written, one after another

@@ -1,7 +1,6 @@
 use Rattle.std.proofs.Common.{◌↔◌, drop}
 use Rattle.cbor4ii_tree.specs.Calls.Access.{HasEqualKeys, HasTwoPairs, PairHasMapWith}
-use Rattle.cbor4ii_tree.specs.Calls.Access.{SomeHasMapWith}
-use Rattle.cbor4ii_tree.specs.Basis.View.{items_view, pairs_view}
+use Rattle.cbor4ii_tree.specs.{Calls.Access.SomeHasMapWith, Basis.View.{items_view, pairs_view}}
 use Rattle.cbor4ii_tree.proofs.equal_keys.+within.Given as goal
 
 -- what the rest has is what all have

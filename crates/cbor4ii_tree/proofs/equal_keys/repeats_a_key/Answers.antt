@@ -1,5 +1,4 @@
-use Rattle.std.proofs.Common.{arith, map, rules, subst, sym}
-use Rattle.std.proofs.lemmas.List.Sorted.{answers_always}
+use Rattle.std.proofs.{Common.{arith, map, rules, subst, sym}, lemmas.List.Sorted.answers_always}
 use Rattle.std.specs.List.Sorted.{IsSortedBy}
 use Rattle.cbor4ii_tree.specs.{Calls.Access.HasTwoPairs, Basis.View.pairs_view}
 use Rattle.cbor4ii_tree.specs.Calls.TotalOrder.{Repeats, is_before, item_behind}

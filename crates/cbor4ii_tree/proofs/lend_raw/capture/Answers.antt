@@ -1,5 +1,4 @@
-use Rattle.cbor4ii_tree.proofs.raw_items.Captured.{captured, rejected_in}
-use Rattle.cbor4ii_tree.proofs.raw_items.Placed.{cut_begins}
+use Rattle.cbor4ii_tree.proofs.raw_items.Captured.{captured, rejected_in, cut_begins}
 use Rattle.cbor4ii_tree.proofs.lend_raw.capture.Goals as goal
 
 pub returns-in-Ok-skip_lent-clause-captures : goal.returns-in-Ok-skip_lent-clause-captures

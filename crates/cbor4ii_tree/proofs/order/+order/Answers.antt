@@ -2,10 +2,9 @@ use Rattle.std.proofs.Common.{◌≡◌, length, sym, ap, ap₂, ◌∙◌, subs
 use Rattle.std.specs.declared.cmp.Ordering.TheVariants.{Equal}
 use Rattle.cbor4ii_items.specs.SequenceBytes.{items_bytes}
 use Rattle.cbor4ii_tree.specs.{Calls.Encoding.{value_bytes, value_pair_bytes}, Calls.Order.Compares}
-use Rattle.cbor4ii_tree.specs.{Basis.View.view}
-use Rattle.cbor4ii_tree.specs.declared.value.Value.{the_lemmas}
+use Rattle.cbor4ii_tree.specs.{Basis.View.view, declared.value.Value.the_lemmas}
 use Rattle.cbor4ii_tree.proofs.encodings.Order.{heads_cmp, same_heads, other_heads, compares_then}
-use Rattle.cbor4ii_tree.proofs.values.Ordered.{arrays, maps, compares_from}
+use Rattle.cbor4ii_tree.proofs.values.Exact.{arrays, maps, compares_from}
 use Rattle.cbor4ii_tree.proofs.order.+order.Goals as goal
 
 pub cmp_values-returns-in-Equal : goal.cmp_values-returns-in-Equal

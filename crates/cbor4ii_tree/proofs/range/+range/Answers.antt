@@ -1,5 +1,4 @@
-use Rattle.cbor4ii_tree.proofs.values.InRange.{items_step, pairs_step, array_in_range}
-use Rattle.cbor4ii_tree.proofs.values.InRange.{map_in_range}
+use Rattle.cbor4ii_tree.proofs.values.InRange.{items_step, pairs_step, array_in_range, map_in_range}
 use Rattle.cbor4ii_tree.proofs.range.+range.Goals as goal
 
 pub in_range-returns-in-Array : goal.in_range-returns-in-Array

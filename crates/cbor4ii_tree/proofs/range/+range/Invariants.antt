@@ -1,6 +1,5 @@
 use Rattle.std.proofs.Common.{take}
-use Rattle.cbor4ii_tree.specs.{Basis.Item.{AreItems, AreItemPairs}}
-use Rattle.cbor4ii_tree.specs.{Basis.View.{items_view, pairs_view}}
+use Rattle.cbor4ii_tree.specs.Basis.{Item.{AreItems, AreItemPairs}, View.{items_view, pairs_view}}
 use Rattle.cbor4ii_tree.proofs.range.+range.Given as goal
 
 abbrev pub invariant-items_in_range-loop-item : goal.invariant-items_in_range-loop-item

@@ -1,6 +1,6 @@
 use Rattle.std.proofs.Common.{refl, subst}
 use Rattle.cbor4ii_items.specs.Head.{LacksArgument}
-use Rattle.cbor4ii_tree.proofs.raw_items.Splits.{splits_none}
+use Rattle.cbor4ii_tree.proofs.raw_items.Keys.{splits_none}
 use Rattle.cbor4ii_tree.proofs.raw_head.head_from.Goals as goal
 
 pub returns-in-None-clause-head : goal.returns-in-None-clause-head

@@ -1,6 +1,5 @@
 use Rattle.std.proofs.Common.{sym, ◌∙◌}
-use Rattle.cbor4ii_tree.proofs.raw_items.Finding.{search_ends, search_finds}
-use Rattle.cbor4ii_tree.proofs.raw_items.Finding.{search_goes_on}
+use Rattle.cbor4ii_tree.proofs.raw_items.Finding.{search_ends, search_finds, search_goes_on}
 use Rattle.cbor4ii_tree.proofs.raw_parts.find_by_text.Goals as goal
 
 pub returns-then-means_text : goal.returns-then-means_text

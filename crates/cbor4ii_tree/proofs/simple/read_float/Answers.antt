@@ -1,8 +1,8 @@
 use Rattle.std.proofs.{Common.{arith, refl, w8}, Math.Facts.Fits-lt-pow}
 use Rattle.cbor4ii_items.specs.Initial.{half, single, double}
 use Rattle.cbor4ii_tree.proofs.values.Heads.{float_read, float_rejected, no_value, view-F16}
-use Rattle.cbor4ii_tree.proofs.{values.Heads.{view-F32, view-F64}, values.Answered.passed}
-use Rattle.cbor4ii_tree.proofs.values.{Asking.{not_wanted, passed_memory}, Gives.no_want}
+use Rattle.cbor4ii_tree.proofs.{values.Heads.{view-F32, view-F64}, values.Asking.passed}
+use Rattle.cbor4ii_tree.proofs.{values.Asking.{not_wanted, passed_memory}, values.Gives.no_want}
 use Rattle.cbor4ii_tree.proofs.simple.read_float.Goals as goal
 
 -- where encodings are free

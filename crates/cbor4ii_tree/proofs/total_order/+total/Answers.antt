@@ -5,7 +5,7 @@ use Rattle.cbor4ii_tree.specs.{Calls.TotalOrder.{value_numbers, pair_numbers}, C
 use Rattle.cbor4ii_tree.specs.{Basis.View.view, declared.value.Value.the_lemmas}
 use Rattle.cbor4ii_tree.proofs.encodings.Order.{heads_cmp, compares_then}
 use Rattle.cbor4ii_tree.proofs.values.Exact.{exact_arrays, exact_maps, other_parts, same_parts}
-use Rattle.cbor4ii_tree.proofs.values.Ordered.{compares_from, compares_here}
+use Rattle.cbor4ii_tree.proofs.values.Exact.{compares_from, compares_here}
 use Rattle.cbor4ii_tree.proofs.total_order.+total.Goals as goal
 
 pub total_cmp-returns-in-Equal : goal.total_cmp-returns-in-Equal

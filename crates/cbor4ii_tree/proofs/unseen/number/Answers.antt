@@ -1,7 +1,8 @@
+use Rattle.cbor4ii_items.specs.Laws.ReadingHeads.{one_more_byte}
 use Rattle.std.proofs.Common.{◌≡◌, ◌+◌, ◌*◌, ◌<◌, ◌^◌, refl, ◌∙◌, arith, subst}
 use Rattle.std.proofs.lemmas.Result.{err_from_is_err_and}
 use Rattle.cbor4ii_tree.specs.Inner.HeadParts.{NoByte, TakesNumber}
-use Rattle.cbor4ii_tree.proofs.skip_calls.Bytes.{number_none, number_more, number_cut, one_more}
+use Rattle.cbor4ii_tree.proofs.skip_calls.Bytes.{number_none, number_more, number_cut}
 use Rattle.cbor4ii_tree.proofs.skip_calls.{Bytes.small_number, Doing.{reached_start, reached_by}}
 use Rattle.cbor4ii_tree.proofs.skip_calls.Doing.{reached_then, reached_as, does_ok, does_err}
 use Rattle.cbor4ii_tree.proofs.unseen.number.Goals as goal
@@ -22,14 +23,14 @@ returns-in_err-byte-clause-does g c =
 
 pub overflow_mul-value : goal.overflow_mul-value
 overflow_mul-value g c =
-    let more = one_more c.loop-i.value 0 c.loop-i.i c.loop-i.invariant.small (omega arith) in
+    let more = one_more_byte c.loop-i.value 0 c.loop-i.i c.loop-i.invariant.small (omega arith) in
     let h : c.loop-i.value * 256 + 0 < 2 ^ 64 =
     small_number _ (c.loop-i.i + 1) more (omega (arith, c.requires, c.loop-i-test.true)) in
     omega (arith, h)
 
 pub overflow_add-value : goal.overflow_add-value
 overflow_add-value g c =
-    let more = one_more c.loop-i.value c.in_ok-byte.byte c.loop-i.i c.loop-i.invariant.small
+    let more = one_more_byte c.loop-i.value c.in_ok-byte.byte c.loop-i.i c.loop-i.invariant.small
     c.in_ok-byte.ensures.byte in
     let h : c.loop-i.value * 256 + c.in_ok-byte.byte < 2 ^ 64 =
     small_number _ (c.loop-i.i + 1) more (omega (arith, c.requires, c.loop-i-test.true)) in
@@ -39,7 +40,7 @@ pub loop-i-preserved : goal.loop-i-preserved
 loop-i-preserved g c = record {
   reached = reached_then _ _ _ (λ xs ys zs. number_more _ _ _ xs ys zs c.in_ok-byte.ensures.byte)
       c.loop-i.invariant.reached (reached_by c.in_ok-byte.ensures.does);
-  small = one_more _ _ _ c.loop-i.invariant.small c.in_ok-byte.ensures.byte;
+  small = one_more_byte _ _ _ c.loop-i.invariant.small c.in_ok-byte.ensures.byte;
   stays = λ t. c.in_ok-byte.ensures.stays t ∙ c.loop-i.invariant.stays t;
 }
 

@@ -1,7 +1,6 @@
 use Rattle.std.proofs.Common.{[], Some, ap, ◌∙◌, sym, subst}
-use Rattle.cbor4ii_tree.specs.{Basis.Canonical.{canonical_cost, with_bignums}}
-use Rattle.cbor4ii_tree.specs.{Basis.Encodings.Encodes}
-use Rattle.cbor4ii_tree.specs.Basis.View.{view}
+use Rattle.cbor4ii_tree.specs.Basis.Canonical.{canonical_cost, with_bignums}
+use Rattle.cbor4ii_tree.specs.{Basis.Encodings.Encodes, Basis.View.view}
 use Rattle.cbor4ii_tree.proofs.boxed_raw.BoxedRawValue.from_value.Goals as goal
 
 pub returns-clause-content : goal.returns-clause-content

@@ -1,5 +1,4 @@
-use Rattle.std.proofs.Common.{sym}
-use Rattle.std.proofs.lemmas.Result.{err_from_is_err_and}
+use Rattle.std.proofs.{Common.sym, lemmas.Result.err_from_is_err_and}
 use Rattle.cbor4ii_tree.proofs.canonical.Decoding.{canonical_ok, canonical_err, canonical_only}
 use Rattle.cbor4ii_tree.proofs.canonical.Decoding.{canonical_all, takes_encoding, canonical_every}
 use Rattle.cbor4ii_tree.proofs.canonical.Decoding.{canonical_prefix, canonical_exact, rejected_all}

@@ -1,19 +1,17 @@
-use Rattle.std.proofs.lemmas.Str.{IsUtf8-string_bytes}
-use Rattle.std.proofs.Common.{true, inl, inr, ◌/◌, ◌≡◌, arith, sym, subst}
-use Rattle.std.proofs.Common.{drop}
+use Rattle.std.proofs.{lemmas.Str.IsUtf8-string_bytes, Common.{true, inl, inr, ◌/◌, ◌≡◌, arith}}
+use Rattle.std.proofs.Common.{sym, subst, drop}
 use Rattle.cbor4ii_items.specs.{Initial.{unsigned, negative, byte_string}, Shortest.ReadsShortest}
 use Rattle.cbor4ii_items.specs.Shortest.{ReadsShortestString, RejectsShortest}
 use Rattle.cbor4ii_items.specs.Shortest.{RejectsShortestString}
-use Rattle.cbor4ii_tree.specs.{Inner.CanonicalCalls.TextAt}
-use Rattle.cbor4ii_tree.specs.{Calls.CanonicalRejects.CanonicalTextRejects}
-use Rattle.cbor4ii_tree.specs.{Basis.InputError.{sign_name, kind_name}, Inner.Valuing.RejectsUnder}
-use Rattle.cbor4ii_tree.specs.declared.value.Value.{Bytes}
-use Rattle.cbor4ii_tree.proofs.canonical.Calls.{string_of, bytes_exact, text_exact}
+use Rattle.cbor4ii_tree.specs.{Inner.CanonicalCalls.TextAt, Inner.Valuing.RejectsUnder}
+use Rattle.cbor4ii_tree.specs.Calls.CanonicalRejects.{CanonicalTextRejects}
+use Rattle.cbor4ii_tree.specs.{Basis.InputError.{sign_name, kind_name}, declared.value.Value.Bytes}
+use Rattle.cbor4ii_tree.proofs.canonical.Decoding.{string_of, bytes_exact, text_exact}
 use Rattle.cbor4ii_tree.proofs.skip_calls.Doing.{does_ok, reached_as, reached_by, still_rejected}
 use Rattle.cbor4ii_tree.proofs.values.Heads.{at_major, head_at, leaf_read, leaf_rejected}
-use Rattle.cbor4ii_tree.proofs.values.Heads.{negative_reads, unsigned_reads}
-use Rattle.cbor4ii_tree.proofs.values.{Answered.passed, Asking.passed_memory, Gives.no_want}
-use Rattle.cbor4ii_tree.proofs.values.Items.{text_encoding}
+use Rattle.cbor4ii_tree.proofs.{values.Heads.{negative_reads, unsigned_reads}, values.Asking.passed}
+use Rattle.cbor4ii_tree.proofs.{values.Asking.passed_memory, values.Gives.no_want}
+use Rattle.cbor4ii_tree.proofs.values.InRange.{text_encoding}
 use Rattle.cbor4ii_tree.proofs.decode_canonical.CanonicalEncodingEncodings.read_leaf.Goals as goal
 
 pub returns-in_err-canonical_head-in-0-clause-does :

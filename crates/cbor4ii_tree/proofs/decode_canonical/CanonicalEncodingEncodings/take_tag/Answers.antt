@@ -1,5 +1,5 @@
 use Rattle.std.proofs.Common.{refl}
-use Rattle.cbor4ii_tree.proofs.{canonical.Calls.tag_shortest, values.Gives.gives_none}
+use Rattle.cbor4ii_tree.proofs.{canonical.Decoding.tag_shortest, values.Gives.gives_none}
 use Rattle.cbor4ii_tree.proofs.decode_canonical.CanonicalEncodingEncodings.take_tag.Goals as goal
 
 pub returns : goal.returns

@@ -1,5 +1,5 @@
 use Rattle.cbor4ii_tree.specs.Basis.View.{view}
-use Rattle.cbor4ii_tree.proofs.encodings.Canonical.{canonical_encodes}
+use Rattle.cbor4ii_tree.proofs.encodings.CanonicalShape.{canonical_encodes}
 use Rattle.cbor4ii_tree.proofs.reading.Laws.{reads_back_tagged}
 use Rattle.cbor4ii_tree.proofs.encode_value.ValueEncode.encode.Goals as goal
 

@@ -1,6 +1,5 @@
 use Rattle.cbor4ii_tree.specs.Calls.RawParts.{array_trees}
-use Rattle.cbor4ii_tree.proofs.raw_items.Finding.{within_array}
-use Rattle.cbor4ii_tree.proofs.raw_items.Meanings.{place_found}
+use Rattle.cbor4ii_tree.proofs.{raw_items.Finding.within_array, raw_items.Meanings.place_found}
 use Rattle.cbor4ii_tree.proofs.raw.RawValue.at.Goals as goal
 
 pub returns-clause-value : goal.returns-clause-value

@@ -1,12 +1,8 @@
 use mir.Syntax.{w128}
-use Rattle.std.proofs.Common.{subst}
-use Rattle.std.proofs.lemmas.Int.{to_z-of_z}
-use Rattle.cbor4ii_tree.specs.Basis.Tree.{Pairs}
-use Rattle.cbor4ii_tree.specs.Calls.RawParts.{Agrees, KeepsItem, PairsToCome, first_value}
-use Rattle.cbor4ii_tree.specs.Calls.RawParts.{map_pairs}
-use Rattle.cbor4ii_tree.specs.Calls.RawParts.{means_integer}
-use Rattle.cbor4ii_tree.proofs.raw_items.Finding.{within_map}
-use Rattle.cbor4ii_tree.proofs.raw_items.Meanings.{integer_found}
+use Rattle.std.proofs.{Common.subst, lemmas.Int.to_z-of_z}
+use Rattle.cbor4ii_tree.specs.{Basis.Tree.Pairs, Calls.RawParts.{Agrees, KeepsItem, PairsToCome}}
+use Rattle.cbor4ii_tree.specs.Calls.RawParts.{first_value, map_pairs, means_integer}
+use Rattle.cbor4ii_tree.proofs.{raw_items.Finding.within_map, raw_items.Meanings.integer_found}
 use Rattle.cbor4ii_tree.proofs.raw.RawValue.get_integer.Goals as goal
 
 pub returns-clause-value : goal.returns-clause-value

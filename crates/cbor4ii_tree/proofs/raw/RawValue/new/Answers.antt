@@ -1,10 +1,9 @@
 use Rattle.std.proofs.Common.{◌≡◌, Ok, refl, length, ap}
 use Rattle.cbor4ii_rw.specs.Slice.{slice_view}
 use Rattle.cbor4ii_items.specs.Laws.Wholes.{trails, to_the_end, none_whole, whole_of, rejected}
-use Rattle.cbor4ii_tree.specs.{Laws.Capturing.raw_lawful}
-use Rattle.cbor4ii_tree.specs.{Calls.Raw.{raw_content, raw_format, raw_place, ReadsRaw}}
-use Rattle.cbor4ii_tree.proofs.raw_items.Captured.{raw_decodes}
-use Rattle.cbor4ii_tree.proofs.raw_items.Placed.{begins_slice}
+use Rattle.cbor4ii_tree.specs.{Laws.Capturing.raw_lawful, Calls.Raw.{raw_content, raw_format}}
+use Rattle.cbor4ii_tree.specs.Calls.Raw.{raw_place, ReadsRaw}
+use Rattle.cbor4ii_tree.proofs.raw_items.Captured.{raw_decodes, begins_slice}
 use Rattle.cbor4ii_tree.proofs.raw.RawValue.new.Goals as goal
 
 pub returns-in_err-raw-clause-whole : goal.returns-in_err-raw-clause-whole

@@ -1,8 +1,8 @@
 use Rattle.std.proofs.Common.{◌≡◌, ℕ, zero, suc, ◌+◌, ◌-◌, ◌<◌, ◌/◌, ◌%◌, refl, sym, ap, ◌∙◌, subst}
 use Rattle.std.proofs.Common.{arith}
-use Rattle.cbor4ii_items.specs.Initial.{Info, wide, indefinite_ended, reserved, info_of}
-use Rattle.cbor4ii_items.specs.Initial.{int_by_info, string_by_info, Sign, unsigned, negative, Kind}
-use Rattle.cbor4ii_items.specs.Initial.{byte_string, text_string, simple_by_info, by_major, initial}
+use Rattle.cbor4ii_items.specs.Initial.{Info, wide, info_of, int_by_info, string_by_info, Sign}
+use Rattle.cbor4ii_items.specs.Initial.{unsigned, negative, Kind, byte_string, text_string}
+use Rattle.cbor4ii_items.specs.Initial.{simple_by_info, by_major, initial}
 use Rattle.cbor4ii_tree.specs.Inner.Skipping.{additional_of, start_of}
 use Rattle.cbor4ii_tree.specs.declared.skip.initial.Start.TheVariants.{Bytes, Content}
 use Rattle.cbor4ii_tree.specs.declared.skip.initial.Additional.TheVariants.{Wide}
@@ -15,14 +15,12 @@ by_parts b = refl
 int_starts : (s : Sign) (i : Info) (count : ℕ) → Wide count ≡ additional_of i
     → Bytes count ≡ start_of (int_by_info s i)
 int_starts s (wide w) count e = cc
-int_starts s indefinite_ended count e = cc
-int_starts s reserved count e = cc
+int_starts s _ count e = cc
 
 string_starts : (k : Kind) (i : Info) (count : ℕ) → Wide count ≡ additional_of i
     → Content ≡ start_of (string_by_info k i)
 string_starts k (wide w) count e = refl
-string_starts k indefinite_ended count e = cc
-string_starts k reserved count e = cc
+string_starts k _ count e = cc
 
 low_starts : (major i count : ℕ) → major < 2 → Wide count ≡ additional_of (info_of i)
     → Bytes count ≡ start_of (by_major major i)
@@ -37,11 +35,8 @@ middle_starts (suc zero) i count lt e = string_starts text_string (info_of i) co
 middle_starts (suc (suc k)) i count lt e = absurd (omega arith)
 
 simple_starts : (k : ℕ) → k < 4 → Bytes 0 ≡ start_of (simple_by_info (20 + k))
-simple_starts zero lt = refl
-simple_starts (suc zero) lt = refl
-simple_starts (suc (suc zero)) lt = refl
-simple_starts (suc (suc (suc zero))) lt = refl
 simple_starts (suc (suc (suc (suc k)))) lt = absurd (omega arith)
+simple_starts _ lt = refl
 
 pub returns-in-Wide-info-3 : goal.returns-in-Wide-info-3
 returns-in-Wide-info-3 c =

@@ -1,25 +1,20 @@
-use Rattle.cbor4ii_tree.specs.Inner.Ahead.{in_map}
-use Rattle.cbor4ii_tree.proofs.skip_calls.Pairs.{keyed_none, keyed_turned, keyed_kept, keyed_done}
-use Rattle.cbor4ii_tree.proofs.skip_calls.{Pairs.keyed_stop, Runs.{twice, once}}
-use Rattle.std.proofs.Common.{refl, ◌∙◌, arith, rules}
-use Rattle.cbor4ii_tree.specs.{Inner.Ahead.{NeverRejects, RejectsSome}}
-use Rattle.cbor4ii_tree.specs.Inner.Skipping.{SkipsItems, SkipsIndefinite, SkipsPairs}
-use Rattle.cbor4ii_tree.specs.declared.skip.items.Went.TheVariants.{Past}
-use Rattle.cbor4ii_tree.proofs.skip_calls.Doing.{reached_start, reached_on}
-use Rattle.cbor4ii_tree.proofs.skip_calls.Doing.{reached_then, does_ok, does_value}
-use Rattle.cbor4ii_tree.proofs.skip_calls.Doing.{stops_on, refused, still_rejected, alike}
-use Rattle.cbor4ii_tree.proofs.skip_calls.Doing.{stays_then, stays_put, apart_leaf, apart_value}
-use Rattle.cbor4ii_tree.proofs.skip_calls.Doing.{apart_with, apart_on, apart_gains, may_stay}
-use Rattle.cbor4ii_tree.proofs.skip_calls.{Doing.lowered, Parts.each_none}
-use Rattle.cbor4ii_tree.proofs.skip_calls.Parts.{each_join, indefinite_stop}
-use Rattle.cbor4ii_tree.proofs.skip_calls.Parts.{indefinite_done}
-use Rattle.cbor4ii_tree.proofs.skip_calls.Runs.{counts_none, broke, went_on, ended, cut, unseen}
-use Rattle.cbor4ii_tree.proofs.skip_calls.Runs.{ran, past, into, none_left, without_step, stepped}
-use Rattle.cbor4ii_tree.proofs.skip_calls.Runs.{some_of, break_of, goes_on}
-use Rattle.cbor4ii_tree.proofs.skip_calls.Runs.{was_past, went_into, headed}
-use Rattle.cbor4ii_tree.proofs.skip_calls.{Runs.{after_nothing}, Deeper.deeper_none}
+use Rattle.cbor4ii_tree.specs.Inner.{Ahead.{in_map, NeverRejects, RejectsSome}, Skipping.SkipsItems}
+use Rattle.cbor4ii_tree.specs.Inner.Skipping.{SkipsIndefinite, SkipsPairs}
+use Rattle.cbor4ii_tree.proofs.skip_calls.Parts.{keyed_none, keyed_turned, keyed_kept, keyed_done}
+use Rattle.cbor4ii_tree.proofs.skip_calls.Parts.{keyed_stop, each_none, each_join, indefinite_stop}
+use Rattle.cbor4ii_tree.proofs.skip_calls.{Parts.indefinite_done, Runs.{twice, once, counts_none}}
+use Rattle.cbor4ii_tree.proofs.skip_calls.Runs.{broke, went_on, ended, cut, unseen, ran, past, into}
+use Rattle.cbor4ii_tree.proofs.skip_calls.Runs.{none_left, without_step, stepped, some_of, break_of}
+use Rattle.cbor4ii_tree.proofs.skip_calls.Runs.{goes_on, was_past, went_into, headed, after_nothing}
+use Rattle.cbor4ii_tree.proofs.skip_calls.Doing.{reached_start, reached_on, reached_then, does_ok}
+use Rattle.cbor4ii_tree.proofs.skip_calls.Doing.{does_value, stops_on, refused, still_rejected}
+use Rattle.cbor4ii_tree.proofs.skip_calls.Doing.{alike, stays_then, stays_put, apart_leaf}
+use Rattle.cbor4ii_tree.proofs.skip_calls.Doing.{apart_value, apart_with, apart_on, apart_gains}
+use Rattle.cbor4ii_tree.proofs.skip_calls.{Doing.{may_stay, lowered}, Deeper.deeper_none}
 use Rattle.cbor4ii_tree.proofs.skip_calls.Deeper.{all_back, does_back, gone_into, gone}
 use Rattle.cbor4ii_tree.proofs.skip_calls.Deeper.{gone_without, gone_on, gone_no_further, all_gone}
+use Rattle.std.proofs.Common.{refl, ◌∙◌, arith, rules}
+use Rattle.cbor4ii_tree.specs.declared.skip.items.Went.TheVariants.{Past}
 use Rattle.cbor4ii_tree.specs.declared.ahead.Among.TheVariants as among
 use Rattle.cbor4ii_tree.proofs.skip.items.+skip.Goals as goal
 
@@ -144,15 +139,14 @@ skip_inward-loop-left-preserved g t c = record {
   stays = stays_then c.loop-left.invariant.stays c.in-Some.ensures.skips.stays;
 }
 
-pub skip_inward-returns-in-None-clause-skips : goal.skip_inward-returns-in-None-clause-skips
-skip_inward-returns-in-None-clause-skips g t c =
-    apart_with (λ _. tt) (gone_no_further c.args.count c.loop-left.left
-    c.loop-left.invariant.reached c.in-None.ensures.skips.does (deeper_none _ _ _
-    c.loop-left.invariant.deeper)) tt c.loop-left.invariant.stays c.in-None.ensures.skips
-
-pub skip_inward-returns-in-None-clause-deeper : goal.skip_inward-returns-in-None-clause-deeper
-skip_inward-returns-in-None-clause-deeper g t c =
-    c.in-None.ensures.deeper _ c.loop-left.invariant.deeper
+pub skip_inward-returns-in-None : goal.skip_inward-returns-in-None
+skip_inward-returns-in-None g t c = record {
+  skips =
+      apart_with (λ _. tt) (gone_no_further c.args.count c.loop-left.left
+      c.loop-left.invariant.reached c.in-None.ensures.skips.does (deeper_none _ _ _
+      c.loop-left.invariant.deeper)) tt c.loop-left.invariant.stays c.in-None.ensures.skips;
+  deeper = c.in-None.ensures.deeper _ c.loop-left.invariant.deeper;
+}
 
 pub skip_inward-returns-clause-skips : goal.skip_inward-returns-clause-skips
 skip_inward-returns-clause-skips g t c = record {
@@ -173,17 +167,16 @@ skip_next-returns-then-not-step_in-clause-skips g t c =
     g.met.F.BytesAhead.same_budget g.met.F.BytesAhead.moved (among.Items c.args.left)
     c.step_in.ensures.others c.if-not-step_in.ensures.budget c.skip_without_step.ensures)
 
-pub skip_next-returns-then-depth-lt18446744073709551615-clause-skips :
-    goal.skip_next-returns-then-depth-lt18446744073709551615-clause-skips
-skip_next-returns-then-depth-lt18446744073709551615-clause-skips g t c =
-    gone_into g.F.BytesAhead.view g.S.Source.view g.met.F.BytesAhead.same_budget
-    g.met.F.BytesAhead.moved
-    c.args.left _ c.step_in.ensures.others c.if-not-step_in.ensures.budget (omega
-    (arith, c.if-left-eq1.true)) (apart_value c.in-Some-Into.field-0-is c.in-Some-Into.ensures)
-
-pub skip_next-returns-then-depth-lt18446744073709551615-clause-deeper :
-    goal.skip_next-returns-then-depth-lt18446744073709551615-clause-deeper
-skip_next-returns-then-depth-lt18446744073709551615-clause-deeper g t c = search rules
+pub skip_next-returns-then-depth-lt18446744073709551615 :
+    goal.skip_next-returns-then-depth-lt18446744073709551615
+skip_next-returns-then-depth-lt18446744073709551615 g t c = record {
+  skips =
+      gone_into g.F.BytesAhead.view g.S.Source.view g.met.F.BytesAhead.same_budget
+      g.met.F.BytesAhead.moved
+      c.args.left _ c.step_in.ensures.others c.if-not-step_in.ensures.budget (omega
+      (arith, c.if-left-eq1.true)) (apart_value c.in-Some-Into.field-0-is c.in-Some-Into.ensures);
+  deeper = search rules;
+}
 
 pub skip_next-returns-then-done-clause-skips : goal.skip_next-returns-then-done-clause-skips
 skip_next-returns-then-done-clause-skips g t c =

@@ -1,7 +1,7 @@
 use Rattle.std.proofs.Common.{IsTrue, ◌+◌, ◌*◌}
 use Rattle.cbor4ii_rw.specs.Reader.{KeepsAllButBudget}
 use Rattle.cbor4ii_tree.specs.Inner.Deeper.{Deeper, FollowsInside, with_budget}
-use Rattle.cbor4ii_tree.proofs.skip_calls.{Doing.Reached, Parts.SkippedEach, Pairs.Keyed}
+use Rattle.cbor4ii_tree.proofs.{skip_calls.Doing.Reached, skip_calls.Parts.{SkippedEach, Keyed}}
 use Rattle.cbor4ii_tree.proofs.skip.items.+skip.Given as goal
 
 abbrev pub decreases-skip_after : goal.decreases-skip_after
