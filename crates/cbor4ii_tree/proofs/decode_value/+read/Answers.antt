@@ -204,20 +204,29 @@ indefinite_items-returns-in_err-part-clause-does g t c =
     rw c.from_residual.ensures (no_byte_left false _ _ _ c.loop-items.invariant.reached
     c.is_break.ensures.decodes c.in_err-part.ensures)
 
-pub indefinite_items-returns-in_err-value-clause-does :
-    goal.indefinite_items-returns-in_err-value-clause-does
-indefinite_items-returns-in_err-value-clause-does g t c =
-    rw c.from_residual-in_err-value.ensures (value_stops _ _ _ (no_break_yet _ _
-    c.loop-items.invariant.reached c.is_break.ensures.decodes c.in_ok-part.ensures
-    c.if-not-branch.true) c.in_err-value.ensures.does)
+pub indefinite_items-returns-in_err-value : goal.indefinite_items-returns-in_err-value
+indefinite_items-returns-in_err-value g t c =
+    let far = no_break_yet _ _ c.loop-items.invariant.reached c.is_break.ensures.decodes
+    c.in_ok-part.ensures c.if-not-branch.true in
+    rw c.from_residual-in_err-value.ensures (record {
+      does = value_stops _ _ _ far c.in_err-value.ensures.does;
+      memory = λ want. asks_after (λ xs us ys h s. in_next _ 1 xs us ys (values_are _ _ _ xs us h.0)
+          s) far (c.in_err-value.ensures.memory want);
+      items = tt;
+    })
 
-pub indefinite_items-returns-in_err-keep-clause-does :
-    goal.indefinite_items-returns-in_err-keep-clause-does
-indefinite_items-returns-in_err-keep-clause-does g t c =
-    rw c.from_residual-in_err-keep.ensures (does_no_memory _ _ (ap error_left
-    c.in_err-keep.ensures.memory) (kept_then (no_break_yet _ _ c.loop-items.invariant.reached
-    c.is_break.ensures.decodes c.in_ok-part.ensures c.if-not-branch.true).kept
-    c.in_ok-value.ensures.does.moves.by))
+pub indefinite_items-returns-in_err-keep : goal.indefinite_items-returns-in_err-keep
+indefinite_items-returns-in_err-keep g t c =
+    let far = no_break_yet _ _ c.loop-items.invariant.reached c.is_break.ensures.decodes
+    c.in_ok-part.ensures c.if-not-branch.true in
+    rw c.from_residual-in_err-keep.ensures (record {
+      does = does_no_memory _ _ (ap error_left c.in_err-keep.ensures.memory)
+          (kept_then far.kept c.in_ok-value.ensures.does.moves.by);
+      memory = λ want. put_grows _ _ (c.in_ok-value.value ∷ []) (omega arith) far
+          (reached_as _ _ (λ xs ys h. one_item _ _ xs _ ys h) (reached_by
+          c.in_ok-value.ensures.does));
+      items = tt;
+    })
 
 pub indefinite_pairs-loop-pairs-init : goal.indefinite_pairs-loop-pairs-init
 indefinite_pairs-loop-pairs-init g t c = record {
@@ -251,20 +260,28 @@ indefinite_pairs-returns-in_err-part-clause-does g t c =
     rw c.from_residual.ensures (no_byte_left true _ c.loop-pairs.pairs.items _
     c.loop-pairs.invariant.reached c.is_break.ensures.decodes c.in_err-part.ensures)
 
-pub indefinite_pairs-returns-in_err-pair-clause-does :
-    goal.indefinite_pairs-returns-in_err-pair-clause-does
-indefinite_pairs-returns-in_err-pair-clause-does g t c =
-    rw c.from_residual-in_err-pair.ensures (pair_stops _ _ c.loop-pairs.pairs.items
-    (no_break_yet _ _ c.loop-pairs.invariant.reached c.is_break.ensures.decodes
-    c.in_ok-part.ensures c.if-not-branch.true) c.in_err-pair.ensures.does)
+pub indefinite_pairs-returns-in_err-pair : goal.indefinite_pairs-returns-in_err-pair
+indefinite_pairs-returns-in_err-pair g t c =
+    let far = no_break_yet _ _ c.loop-pairs.invariant.reached c.is_break.ensures.decodes
+    c.in_ok-part.ensures c.if-not-branch.true in
+    rw c.from_residual-in_err-pair.ensures (record {
+      does = pair_stops _ _ c.loop-pairs.pairs.items far c.in_err-pair.ensures.does;
+      memory = λ want. asks_after (λ xs us ys h s. in_further _ xs us ys (values_are _ _ _ xs us
+          h.0) s) far (c.in_err-pair.ensures.memory want);
+      items = tt;
+    })
 
-pub indefinite_pairs-returns-in_err-keep-clause-does :
-    goal.indefinite_pairs-returns-in_err-keep-clause-does
-indefinite_pairs-returns-in_err-keep-clause-does g t c =
-    rw c.from_residual-in_err-keep.ensures (does_no_memory _ _ (ap error_left
-    c.in_err-keep.ensures.memory) (kept_then (no_break_yet _ _ c.loop-pairs.invariant.reached
-    c.is_break.ensures.decodes c.in_ok-part.ensures c.if-not-branch.true).kept
-    c.in_ok-pair.ensures.does.moves.by))
+pub indefinite_pairs-returns-in_err-keep : goal.indefinite_pairs-returns-in_err-keep
+indefinite_pairs-returns-in_err-keep g t c =
+    let far = no_break_yet _ _ c.loop-pairs.invariant.reached c.is_break.ensures.decodes
+    c.in_ok-part.ensures c.if-not-branch.true in
+    rw c.from_residual-in_err-keep.ensures (record {
+      does = does_no_memory _ _ (ap error_left c.in_err-keep.ensures.memory)
+          (kept_then far.kept c.in_ok-pair.ensures.does.moves.by);
+      memory = λ want. put_grows _ _ (c.in_ok-pair.pair.0 ∷ c.in_ok-pair.pair.1 ∷ []) (omega arith)
+          far (reached_by c.in_ok-pair.ensures.does);
+      items = tt;
+    })
 
 pub read_pair-returns : goal.read_pair-returns
 read_pair-returns g t c =
@@ -478,44 +495,11 @@ indefinite_items-returns-in_err-part-clause-memory g t c =
     rw c.from_residual.ensures (λ want. absurd (no_want (rw c.in_err-part.ensures at
     c.is_break.ensures.decodes.memory) want))
 
-pub indefinite_items-returns-in_err-value-clause-memory :
-    goal.indefinite_items-returns-in_err-value-clause-memory
-indefinite_items-returns-in_err-value-clause-memory g t c =
-    rw c.from_residual-in_err-value.ensures (λ want. asks_after (λ xs us ys h s. in_next _ 1 xs us
-    ys (values_are _ _ _ xs us h.0) s) (no_break_yet _ _ c.loop-items.invariant.reached
-    c.is_break.ensures.decodes c.in_ok-part.ensures c.if-not-branch.true)
-    (c.in_err-value.ensures.memory want))
-
-pub indefinite_items-returns-in_err-keep-clause-memory :
-    goal.indefinite_items-returns-in_err-keep-clause-memory
-indefinite_items-returns-in_err-keep-clause-memory g t c =
-    rw c.from_residual-in_err-keep.ensures (λ want. put_grows _ _ (c.in_ok-value.value ∷ []) (omega
-    arith) (no_break_yet _ _ c.loop-items.invariant.reached c.is_break.ensures.decodes
-    c.in_ok-part.ensures c.if-not-branch.true) (reached_as _ _ (λ xs ys h. one_item _ _ xs _ ys h)
-    (reached_by c.in_ok-value.ensures.does)))
-
 pub indefinite_pairs-returns-in_err-part-clause-memory :
     goal.indefinite_pairs-returns-in_err-part-clause-memory
 indefinite_pairs-returns-in_err-part-clause-memory g t c =
     rw c.from_residual.ensures (λ want. absurd (no_want (rw c.in_err-part.ensures at
     c.is_break.ensures.decodes.memory) want))
-
-pub indefinite_pairs-returns-in_err-pair-clause-memory :
-    goal.indefinite_pairs-returns-in_err-pair-clause-memory
-indefinite_pairs-returns-in_err-pair-clause-memory g t c =
-    rw c.from_residual-in_err-pair.ensures (λ want. asks_after (λ xs us ys h s. in_further _ xs us
-    ys (values_are _ _ _ xs us h.0) s)
-    (no_break_yet _ _ c.loop-pairs.invariant.reached c.is_break.ensures.decodes
-    c.in_ok-part.ensures c.if-not-branch.true) (c.in_err-pair.ensures.memory want))
-
-pub indefinite_pairs-returns-in_err-keep-clause-memory :
-    goal.indefinite_pairs-returns-in_err-keep-clause-memory
-indefinite_pairs-returns-in_err-keep-clause-memory g t c =
-    rw c.from_residual-in_err-keep.ensures (λ want. put_grows _ _ (c.in_ok-pair.pair.0
-    ∷ c.in_ok-pair.pair.1 ∷ []) (omega arith)
-    (no_break_yet _ _ c.loop-pairs.invariant.reached c.is_break.ensures.decodes
-    c.in_ok-part.ensures c.if-not-branch.true) (reached_by
-    c.in_ok-pair.ensures.does))
 
 pub definite_items-returns-then-not-make_room-clause-memory :
     goal.definite_items-returns-then-not-make_room-clause-memory
