@@ -31,8 +31,8 @@ use Rattle.cbor4ii_tree.proofs.reading.Answer.{one_reading, decodes_tree, not_bo
 use Rattle.cbor4ii_tree.proofs.canonical.AsValue.{within_value, canonically_as_value}
 use Rattle.cbor4ii_tree.proofs.values.Calls.{begins_width}
 
--- ---- where bytes are rejected since their encoding is not the canonical one, no canonical tree begins
--- them, whatever follows.
+-- ---- where bytes are rejected since their encoding is not the canonical one, no canonical tree
+-- begins them, whatever follows
 
 -- the error of what is read as a value, and is no canonical encoding
 abbrev pub loose : InputError

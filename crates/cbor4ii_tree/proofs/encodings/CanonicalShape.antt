@@ -445,7 +445,8 @@ pub canonically_encoded : (encoding : List ℕ) (v : Item) (steps : ℕ) → Enc
     v steps
     → IsDecoded v × (encoding ≡ canonical_encoding v) × (steps ≡ canonical_cost v)
 canonically_encoded encoding v steps s =
-    let same = (ap canonical_tree (sym s.value_is) ∙ canonical_of_shape s.of_tree s.canonical.0.0 s.canonical.1) in
+    let same = ap canonical_tree (sym s.value_is)
+    ∙ canonical_of_shape s.of_tree s.canonical.0.0 s.canonical.1 in
     let p = s.canonical.0 in (
       (
         subst IsItem s.value_is (item_of_shape s.of_tree p.0 p.1 s.canonical.1),

@@ -144,7 +144,8 @@ low_digits (suc k) n m =
     (compares_cons (byte_at k n) (byte_at k m) (λ _. low_digits k n m))
   where
     mod_below : (j : ℕ) → j % 256 ^ k < 256 ^ k
-    mod_below j = omega (arith, (pow-le-pow_right {n = 256} (omega arith) {i = 0} {j = k} (omega arith)))
+    mod_below j =
+        omega (arith, pow-le-pow_right {n = 256} (omega arith) {i = 0} {j = k} (omega arith))
 
 -- numbers of so many bytes compare as these do
 digits : (k n m : ℕ) → n < 256 ^ k → m < 256 ^ k

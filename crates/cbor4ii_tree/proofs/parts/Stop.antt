@@ -20,8 +20,8 @@ use Rattle.cbor4ii_tree.specs.Basis.Tree.{bytes_pairs, pair_count}
 use Rattle.cbor4ii_tree.proofs.parts.Meets.{Meets, ok_meets, err_meets, then_meets}
 use Rattle.cbor4ii_tree.proofs.parts.Rejecting.{in_count, in_items, in_pairs}
 
--- ---- what is read as a sequence is whole items, one after another; where it is rejected, whole items
--- stand before one that is rejected.
+-- ---- what is read as a sequence is whole items, one after another; where it is rejected, whole
+-- items stand before one that is rejected
 
 pub record Took (Whole : Tree → Type 0) (bs : List ℕ) (p : Tree × List ℕ) : Type 0 where
   pub whole : Whole p.0
@@ -297,7 +297,8 @@ module _ (item : Parser Tree) (Whole : Tree → Type 0) (rejects : Rejection) (b
         let more2 : length (bytes t ++ all) < suc n = subst (λ y. length y < suc n) same more in
         ap (indefinite_trees_at item (suc n)) same ∙ (indefinite_turn item n (bytes t) all (s t l.0)
         ∙ rw (a t all l.0 lt2) (then_err (indefinite_trees_at item n all) _ (e, rest)
-        (indefinite_items ts n after e rest l.1 (omega (arith, length-append {A = ℕ}, length-bytes-pos))
+        (indefinite_items ts n after e rest l.1
+        (omega (arith, length-append {A = ℕ}, length-bytes-pos))
         (shorter (bytes t) all bound lt2) st)))
 
     pub indefinite_trees_stop : (n : ℕ) (bs : List ℕ) (e : InputError) (rest : List ℕ)

@@ -36,8 +36,8 @@ use Rattle.cbor4ii_tree.proofs.parts.Prefixes.{then_some, stepped_prefix, nought
 use Rattle.cbor4ii_tree.proofs.parts.Prefixes.{eof_only, indefinite_prefix}
 use Rattle.cbor4ii_tree.proofs.heads.Means.{Means, means}
 
--- ---- where an item is rejected at the end of the input, the input is a proper prefix of a loose tree,
--- which joins chunks where strings are tested.
+-- ---- where an item is rejected at the end of the input, the input is a proper prefix of a loose
+-- tree, which joins chunks where strings are tested
 
 abbrev pub Outline : Bool → Tree → Type 0
 Outline true t = Loose t × Joins t
@@ -149,7 +149,9 @@ chunk_prefix : (tests : Bool) (k : Kind) (budget : Budget) (rejects : Rejection)
     → Prefixes (Chunk tests k) (RejectsChunkBy tests k budget rejects)
 unfolding Chunk
 chunk_prefix false k budget rejects g bs e rest h eo st = g bs e rest h eo st
-chunk_prefix true k budget rejects g [] e rest h eo st = prefix_of (Chunk true k) [] (string k in_first []) (bytes (string k in_first [])) (chunk_string k in_first [] (omega arith)) (empty_some k) refl
+chunk_prefix true k budget rejects g [] e rest h eo st =
+    prefix_of (Chunk true k) [] (string k in_first []) (bytes (string k in_first []))
+    (chunk_string k in_first [] (omega arith)) (empty_some k) refl
 chunk_prefix true k budget rejects g (b ∷ bs) e rest h eo st =
     stepped_prefix (Chunk true k) _ (step_in budget) (b ∷ bs)
     (λ inner. ChunkRejectsBy k (initial b) b bs) e rest eo

@@ -62,14 +62,18 @@ Bool-bytes value b e = bool-canonical_encoding b ∙ sym
 pub Array-bytes : (value : Value) (v : Vec Value Global) (vs : List Value) → value ≡ Array v
     → vs ≡ v.items → shortest_head 4 (length vs) ++ items_bytes value_bytes vs ≡ value_bytes value
 Array-bytes value v vs e same =
-    (headed 4 _ _ (item_count (items_view vs)) _ _ (sym (item_count-items_view vs)) (count-canonical_encoding (items_view vs)) (items-canonical_encoding vs)) ∙ ap (λ l. canonical_encoding (sequence (items_view l))) same
+    headed 4 _ _ (item_count (items_view vs)) _ _ (sym (item_count-items_view vs))
+    (count-canonical_encoding (items_view vs)) (items-canonical_encoding vs)
+    ∙ ap (λ l. canonical_encoding (sequence (items_view l))) same
     ∙ sym (ap canonical_encoding (ap view e ∙ view-Array v))
 
 pub Map-bytes : (value : Value) (v : Vec (Value × Value) Global) (ms : List (Value × Value))
     → value ≡ Map v → ms ≡ v.items
     → shortest_head 5 (length ms) ++ items_bytes value_pair_bytes ms ≡ value_bytes value
 Map-bytes value v ms e same =
-    (headed 5 _ _ (item_pair_count (pairs_view ms)) _ _ (sym (pair_count-pairs_view ms)) (count-pairs (pairs_view ms)) (pairs-canonical_encoding ms)) ∙ ap (λ l. canonical_encoding (mapping (pairs_view l))) same
+    headed 5 _ _ (item_pair_count (pairs_view ms)) _ _ (sym (pair_count-pairs_view ms))
+    (count-pairs (pairs_view ms)) (pairs-canonical_encoding ms)
+    ∙ ap (λ l. canonical_encoding (mapping (pairs_view l))) same
     ∙ sym (ap canonical_encoding (ap view e ∙ view-Map v))
 
 pub view-Integer : (z : ℤ) → view (Integer z) ≡ integer z

@@ -315,7 +315,8 @@ pub definite_pairs-returns-then-not-make_room : goal.definite_pairs-returns-then
 definite_pairs-returns-then-not-make_room g t c = record {
   does = does_no_memory _ _ refl (kept_alike _);
   memory = λ want.
-      asks_here _ (λ xs ys h. inl (0, omega arith, values_are _ _ [] xs ys h)) (none_read _ _ [] refl);
+      asks_here _ (λ xs ys h. inl (0, omega arith, values_are _ _ [] xs ys h))
+      (none_read _ _ [] refl);
   items = search rules;
 }
 

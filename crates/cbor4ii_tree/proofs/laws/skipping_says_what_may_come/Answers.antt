@@ -7,8 +7,8 @@ pub returns : goal.returns
 returns c = record {
   prefix = lemmas.prefix_rejects;
   nothing_left =
-      λ input budget name expect rest. leaves_nothing skipping_profile input budget (eof name expect)
-      rest tt;
+      λ input budget name expect rest. leaves_nothing skipping_profile input budget
+      (eof name expect) rest tt;
   only_prefixes = lemmas.eof_on_prefix;
   no_steps = lemmas.depth_stays;
   never = lemmas.final_stays;
