@@ -1,7 +1,7 @@
 use Rattle.cbor4ii_ser.specs.Values.{some_holds_tag, pairs_hold_tag}
 use Rattle.cbor4ii_tree.specs.Basis.View.{items_view, pairs_view}
 use Rattle.std.proofs.Math.Seq.{take-length}
-use Rattle.std.proofs.Common.{sym, refl, ap, ◌∙◌, ◌≡◌, length, take, arith}
+use Rattle.std.proofs.Common.{sym, ap, ◌∙◌, ◌≡◌, length, take, arith}
 use Rattle.cbor4ii_ser.proofs.HoldingTags.{items_none, items_found, pairs_none, key_found}
 use Rattle.cbor4ii_ser.proofs.HoldingTags.{value_found}
 use Rattle.cbor4ii_ser.proofs.value.+tags.Goals as goal
@@ -31,12 +31,6 @@ pairs_hold_tag-loop-pair-preserved t c =
     pairs_none c.args.pairs.now c.loop-pair.pair-index c.pair-item.result
     c.loop-pair-test.true c.pair-item.is c.loop-pair.invariant
     (sym c.if-holds_tag.ensures) (sym c.if-holds_tag-2.ensures)
-
-pub some_holds_tag-loop-item-init : goal.some_holds_tag-loop-item-init
-some_holds_tag-loop-item-init t c = refl
-
-pub pairs_hold_tag-loop-pair-init : goal.pairs_hold_tag-loop-pair-init
-pairs_hold_tag-loop-pair-init t c = refl
 
 pub some_holds_tag-returns : goal.some_holds_tag-returns
 some_holds_tag-returns t c =

@@ -12,12 +12,6 @@ returns-clause-written g c =
     serializes_then _ _ c.serialize_value.result c.in_ok-serialize_key.ensures.written
     c.serialize_value.ensures.written
 
-pub serialize_key-requires-clause-keyed : goal.serialize_key-requires-clause-keyed
-serialize_key-requires-clause-keyed g c = c.requires.keyed
-
-pub serialize_key-requires-clause-owes : goal.serialize_key-requires-clause-owes
-serialize_key-requires-clause-owes g c = c.requires.owes
-
 pub serialize_key-requires-clause-left : goal.serialize_key-requires-clause-left
 serialize_key-requires-clause-left g c = c.requires.left
 
@@ -25,9 +19,6 @@ pub returns-in_err-serialize_key-clause-same_reference :
     goal.returns-in_err-serialize_key-clause-same_reference
 returns-in_err-serialize_key-clause-same_reference g c =
     c.in_err-serialize_key.ensures.same_reference
-
-pub returns-in_err-serialize_key-clause-keyed : goal.returns-in_err-serialize_key-clause-keyed
-returns-in_err-serialize_key-clause-keyed g c = c.in_err-serialize_key.ensures.keyed
 
 pub returns-in_err-serialize_key-clause-owes : goal.returns-in_err-serialize_key-clause-owes
 returns-in_err-serialize_key-clause-owes g c =
@@ -56,15 +47,9 @@ returns-in_err-serialize_key-clause-rejected_at_value g c =
 pub serialize_value-requires-clause-keyed : goal.serialize_value-requires-clause-keyed
 serialize_value-requires-clause-keyed g c = c.in_ok-serialize_key.ensures.keyed ∙ c.requires.keyed
 
-pub serialize_value-requires-clause-owes : goal.serialize_value-requires-clause-owes
-serialize_value-requires-clause-owes g c = c.in_ok-serialize_key.ensures.owes
-
 pub returns-clause-same_reference : goal.returns-clause-same_reference
 returns-clause-same_reference g c =
     c.serialize_value.ensures.same_reference ∙ c.in_ok-serialize_key.ensures.same_reference
 
 pub returns-clause-keyed : goal.returns-clause-keyed
 returns-clause-keyed g c = c.serialize_value.ensures.keyed ∙ c.in_ok-serialize_key.ensures.keyed
-
-pub returns-clause-owes : goal.returns-clause-owes
-returns-clause-owes g c = c.serialize_value.ensures.owes

@@ -2,9 +2,6 @@ use Rattle.std.proofs.lemmas.List.{append-nil}
 use Rattle.std.proofs.Common.{refl, ap, Some, [], ◌≡◌, false, true, sym, ◌∙◌}
 use Rattle.cbor4ii_ser.proofs.value.ValueSerialize.serialize.Goals as goal
 
-pub returns-then-holds_tag-clause-untouched : goal.returns-then-holds_tag-clause-untouched
-returns-then-holds_tag-clause-untouched g c = λ _. refl
-
 pub returns-then-holds_tag-clause-written : goal.returns-then-holds_tag-clause-written
 returns-then-holds_tag-clause-written g c =
     rw (sym c.if-holds_tag.ensures) (record {
