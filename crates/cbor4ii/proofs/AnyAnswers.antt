@@ -42,6 +42,7 @@ use Rattle.cbor4ii.specs.Stepped.{RejectsStepped, stepped_format}
 use Rattle.cbor4ii.specs.Typed.{lawful_as, no_number}
 use Rattle.cbor4ii.proofs.Looking.{Saw, none_begins}
 use Rattle.cbor4ii_tree.specs.declared.value.Value as values
+use Rattle.cbor4ii.proofs.Forms.{sound_by, err_here, found_here}
 
 pub any_lawful : IsLawful any_format
 any_lawful = lawful_as any_laws
@@ -70,26 +71,16 @@ module _ {U V E : Type 0} (s : Format U) (t : Format V) (form : U → V) (m : Me
       ok_after s t (kept_alike a) (λ xs known. (
         xs,
         known,
-        λ n c r fits. record {
-          count = n;
-          cost = c;
-          read = m.to xs u n c r;
-          fits = fits;
-          left = refl;
-        },
+        λ n c r fits. found_here n c (m.to xs u n c r) fits,
       )) (λ some. d.progress (m.some some)) d
 
   pub as_err : {e : DecodeError E} → Decodes s a b (Err e) → Decodes t a b (Err e)
   as_err d =
-      decodes_exactly (err_after s t (kept_alike a) (λ xs known. (
-        xs,
-        known,
-        record {
-          none = λ is none v n c r fits. (let u = m.from xs v n c r in none u.0 n c u.1 fits);
-          rejects = m.rejects xs a.budget;
-          begins = m.begins xs a.budget;
-        },
-      )) m.owned m.memory (of_exact d))
+      decodes_exactly (err_here s t (λ xs. record {
+        none = λ is none v n c r fits. (let u = m.from xs v n c r in none u.0 n c u.1 fits);
+        rejects = m.rejects xs a.budget;
+        begins = m.begins xs a.budget;
+      }) m.owned m.memory (of_exact d))
 
 pub formed : {W : Type 0} (form : W → Value) (s : Format W)
     → Means s (formed_format form s) form
@@ -250,13 +241,7 @@ of_kind k {a = a} {first = first} kept s is (Ok v) d =
     ok_after (kind_format k) any_inside kept (λ xs known. (let f = s.first xs known in (
       xs,
       f.0,
-      λ n c r fits. record {
-        count = n;
-        cost = c;
-        read = (first, f.1, subst (λ j. KindAs ReadsAny j xs v n c) is r);
-        fits = fits;
-        left = refl;
-      },
+      λ n c r fits. found_here n c (first, f.1, subst (λ j. KindAs ReadsAny j xs v n c) is r) fits,
     ))) (λ some. omega (arith, d.progress refl, kept.bound)) d
 of_kind k {a = a} {first = first} kept s is (Err e) d =
     decodes_exactly (err_after (kind_format k) any_inside kept (λ xs known. (
@@ -303,36 +288,22 @@ of_other name {a = a} {first = first} kept any s is =
 pub of_end : {E : Type 0} {a m : View} {e : DecodeError E}
     → Decodes (next_format (codes "any")) a m (Err e) → Decodes any_inside a m (Err e)
 of_end {a = a} d =
-    decodes_exactly (err_after (next_format (codes "any")) any_inside (kept_alike a) (λ xs known. (
-      xs,
-      known,
-      record {
-        none = λ is none v n c p fits. none_begins xs p.0 a.budget none p.1;
-        rejects = λ z ys h. inl h;
-        begins = λ z ys h. inl h;
-      },
-    )) (λ owned. owned) (λ takes. refl) (of_exact d))
+    decodes_exactly (err_here (next_format (codes "any")) any_inside (λ xs. record {
+      none = λ is none v n c p fits. none_begins xs p.0 a.budget none p.1;
+      rejects = λ z ys h. inl h;
+      begins = λ z ys h. inl h;
+    }) (λ owned. owned) (λ takes. refl) (of_exact d))
 
 -- ---- a bignum
 
 pub bignum_sound : {a b : View} {k : ℕ} → k < 2 ^ 127 → Sound ReadsU128 a b k
     → Sound (Formed ReadsSmallU128 of_bignum) a b (values.Integer (to_z w128 k))
-bignum_sound {k = k} less s = record {
-  at = λ xs known.
-      let p = s.at xs known in
-      record {
-        count = p.count;
-        cost = p.cost;
-        read = (
-          k,
-          (p.read, less),
-          ap (λ z. values.Integer z)
-              (to_z-of_z w128 (pos k) (record { sfits = less })),
-        );
-        fits = p.fits;
-        left = p.left;
-      };
-}
+bignum_sound {k = k} less s =
+    sound_by s (λ xs n c r. (
+      k,
+      (r, less),
+      ap values.Integer (to_z-of_z w128 (pos k) (record { sfits = less })),
+    ))
 
 -- the number that stands there is the only one
 pub too_great : {E : Type 0} {a b : View} {k : ℕ} {e : DecodeError E} → 2 ^ 127 ≤ k
@@ -368,17 +339,13 @@ pub bignum_err : {E : Type 0} {a b : View} {e : DecodeError E}
     → Decodes (leaf_format ReadsU128 (λ xs budget. RejectsU128 xs)) a b (Err e)
     → Decodes (any_leaf Bignum) a b (Err e)
 bignum_err {a = a} d =
-    decodes_exactly (err_after (leaf_format ReadsU128 (λ xs budget. RejectsU128 xs))
+    decodes_exactly (err_here (leaf_format ReadsU128 (λ xs budget. RejectsU128 xs))
     (any_leaf Bignum)
-    (kept_alike a) (λ xs known. (
-      xs,
-      known,
-      record {
-        none = λ is none v n c r fits. none r.0 n c r.1.0 fits;
-        rejects = λ z ys h. inl h;
-        begins = λ z ys h. inl h;
-      },
-    )) (λ owned. refl) (λ takes. takes) (of_exact d))
+    (λ xs. record {
+      none = λ is none v n c r fits. none r.0 n c r.1.0 fits;
+      rejects = λ z ys h. inl h;
+      begins = λ z ys h. inl h;
+    }) (λ owned. refl) (λ takes. takes) (of_exact d))
 
 -- an item that holds no other, by what it is
 pub leaf_is : {E : Type 0} {l k : AnyLeaf} {a b : View} {r : Result Value (DecodeError E)} → l ≡ k

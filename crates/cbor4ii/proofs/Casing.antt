@@ -12,7 +12,6 @@ use Rattle.cbor4ii_items.specs.Laws.Calls.{ok, ok_after, err_after, of_exact, ex
 use Rattle.cbor4ii_items.specs.Laws.Calls.{exact_less}
 use Rattle.cbor4ii_items.specs.Laws.Containers.{both}
 use Rattle.cbor4ii_items.specs.Laws.Prefixes.{drop_more}
-use Rattle.cbor4ii_items.specs.Laws.Running.{kept_alike}
 use Rattle.cbor4ii.specs.declared.serde.de.cases.Choice.{Choice}
 use Rattle.cbor4ii.specs.declared.serde.de.cases.Choice.TheVariants.{First, Other}
 use Rattle.cbor4ii.specs.Cases.{Cases, Holding, reads_by, holding_format, case_format, case}
@@ -23,6 +22,7 @@ use Rattle.cbor4ii.specs.Typed.{Promise, Deserializes}
 use Rattle.cbor4ii.specs.TypedParts.{part_of}
 use Rattle.cbor4ii.specs.Variants.{form_format}
 use Rattle.cbor4ii.proofs.Promised.{tell}
+use Rattle.cbor4ii.proofs.Forms.{sound_by, err_here}
 
 -- ---- what one variant holds
 
@@ -31,26 +31,14 @@ module _ {T E : Type 0} (p : Promise T) {a b : View} where
       → Deserializes p a b r → DecodesIf p.exact (holding_format (held_case p) form) a b r
   held_then (false, first) is r d = cc
   held_then (true, first) is (Ok v) d =
-      of_exact (ok (holding_format (held_case p) (true, first)) d.moves.by (λ some. cc) (record {
-        at = λ xs known. let q = d.sound.at xs known in record {
-          count = q.count;
-          cost = q.cost;
-          read = q.read;
-          fits = q.fits;
-          left = q.left;
-        };
-      }))
+      of_exact (ok (holding_format (held_case p) (true, first)) d.moves.by (λ some. cc)
+      (sound_by d.sound (λ xs n c r. r)))
   held_then (true, first) is (Err e) d =
-      err_after (part_of p) (holding_format (held_case p) (true, first)) (kept_alike a)
-      (λ xs known. (
-        xs,
-        known,
-        record {
-          none = λ is none v n c r fits. none v n c r fits;
-          rejects = λ z ys h. h;
-          begins = λ z ys h. h;
-        },
-      )) (λ owned. owned) (λ takes. refl) (tell p (Err e) d)
+      err_here (part_of p) (holding_format (held_case p) (true, first)) (λ xs. record {
+        none = λ is none v n c r fits. none v n c r fits;
+        rejects = λ z ys h. h;
+        begins = λ z ys h. h;
+      }) (λ owned. owned) (λ takes. refl) (tell p (Err e) d)
 
 -- ---- one variant, and those after it
 
@@ -93,31 +81,19 @@ module _ {A B : Type 0} (own : List ℕ) (h : Holding A) (others : Cases B) {nam
         → DecodesIf {E = E} y (case_format (case own h others) form name) a b (Ok (First v))
     first_ok {v = v} same d =
         of_exact (ok (case_format (case own h others) form name) d.moves.by (λ some. cc)
-        (record {
-          at = λ xs known. let q = d.sound.at xs known in record {
-            count = q.count;
-            cost = q.cost;
-            read = first_read form same xs v q.count q.cost q.read;
-            fits = q.fits;
-            left = q.left;
-          };
-        }))
+        (sound_by d.sound (λ xs n c r. first_read form same xs v n c r)))
 
     pub first_err : {e : DecodeError E} → name ≡ own
         → DecodesIf h.exact (holding_format h form) a b (Err e)
         → DecodesIf (h.exact && others.exact) (case_format (case own h others) form name) a b
         (Err e)
     first_err same d =
-        err_after (holding_format h form) (case_format (case own h others) form name)
-        (kept_alike a) (λ xs known. (
-          xs,
-          known,
-          record {
-            none = λ is. none_first form same xs a.budget;
-            rejects = λ z ys s. inl (same, s);
-            begins = λ z ys s. inl (same, s);
-          },
-        )) (λ owned. (both h.owned others.owned owned).0) (λ takes. refl)
+        err_here (holding_format h form) (case_format (case own h others) form name)
+        (λ xs. record {
+          none = λ is. none_first form same xs a.budget;
+          rejects = λ z ys s. inl (same, s);
+          begins = λ z ys s. inl (same, s);
+        }) (λ owned. (both h.owned others.owned owned).0) (λ takes. refl)
         (exact_less (λ is. (both h.exact others.exact is).0) d)
 
     pub other_ok : {x y : Bool} {v : B} → name ≢ own
@@ -125,31 +101,19 @@ module _ {A B : Type 0} (own : List ℕ) (h : Holding A) (others : Cases B) {nam
         → DecodesIf {E = E} y (case_format (case own h others) form name) a b (Ok (Other v))
     other_ok {v = v} apart d =
         of_exact (ok (case_format (case own h others) form name) d.moves.by (λ some. cc)
-        (record {
-          at = λ xs known. let q = d.sound.at xs known in record {
-            count = q.count;
-            cost = q.cost;
-            read = other_read form apart xs v q.count q.cost q.read;
-            fits = q.fits;
-            left = q.left;
-          };
-        }))
+        (sound_by d.sound (λ xs n c r. other_read form apart xs v n c r)))
 
     pub other_err : {e : DecodeError E} → name ≢ own
         → DecodesIf others.exact (case_format others form name) a b (Err e)
         → DecodesIf (h.exact && others.exact) (case_format (case own h others) form name) a b
         (Err e)
     other_err apart d =
-        err_after (case_format others form name) (case_format (case own h others) form name)
-        (kept_alike a) (λ xs known. (
-          xs,
-          known,
-          record {
-            none = λ is. none_other form apart xs a.budget;
-            rejects = λ z ys s. inr (apart, s);
-            begins = λ z ys s. inr (apart, s);
-          },
-        )) (λ owned. (both h.owned others.owned owned).1) (λ takes. refl)
+        err_here (case_format others form name) (case_format (case own h others) form name)
+        (λ xs. record {
+          none = λ is. none_other form apart xs a.budget;
+          rejects = λ z ys s. inr (apart, s);
+          begins = λ z ys s. inr (apart, s);
+        }) (λ owned. (both h.owned others.owned owned).1) (λ takes. refl)
         (exact_less (λ is. (both h.exact others.exact is).1) d)
 
 -- no variant of these names
@@ -175,31 +139,19 @@ module _ {A B : Type 0} (h : Holding A) (others : Cases B) (name : List ℕ) whe
         (Ok (Other v))
     unnamed_ok {v = v} d =
         of_exact (ok (case_format (unnamed_case h others) form name) d.moves.by (λ some. cc)
-        (record {
-          at = λ xs known. let q = d.sound.at xs known in record {
-            count = q.count;
-            cost = q.cost;
-            read = unnamed_read form xs v q.count q.cost q.read;
-            fits = q.fits;
-            left = q.left;
-          };
-        }))
+        (sound_by d.sound (λ xs n c r. unnamed_read form xs v n c r)))
 
     pub unnamed_err : {e : DecodeError E}
         → DecodesIf others.exact (case_format others form name) a b (Err e)
         → DecodesIf (h.exact && others.exact) (case_format (unnamed_case h others) form name)
         a b (Err e)
     unnamed_err d =
-        err_after (case_format others form name)
-        (case_format (unnamed_case h others) form name) (kept_alike a) (λ xs known. (
-          xs,
-          known,
-          record {
-            none = λ is. none_unnamed form xs a.budget;
-            rejects = λ z ys s. s;
-            begins = λ z ys s. s;
-          },
-        )) (λ owned. (both h.owned others.owned owned).1) (λ takes. refl)
+        err_here (case_format others form name)
+        (case_format (unnamed_case h others) form name) (λ xs. record {
+          none = λ is. none_unnamed form xs a.budget;
+          rejects = λ z ys s. s;
+          begins = λ z ys s. s;
+        }) (λ owned. (both h.owned others.owned owned).1) (λ takes. refl)
         (exact_less (λ is. (both h.exact others.exact is).1) d)
 
 -- ---- the form, and what comes after it
@@ -208,15 +160,11 @@ module _ {V E : Type 0} (cases : Cases V) {a m : View} where
   pub form_err : {x : Bool} {e : DecodeError E} → Decodes form_format a m (Err e)
       → DecodesIf x (cases_inside cases) a m (Err e)
   form_err d =
-      err_after form_format (cases_inside cases) (kept_alike a) (λ xs known. (
-        xs,
-        known,
-        record {
-          none = λ is none v n c q fits. none q.form q.size 0 q.seen (fits_zero a.budget);
-          rejects = λ z ys. inl;
-          begins = λ z ys. inl;
-        },
-      )) (λ owned. refl) (λ takes. refl) (of_exact d)
+      err_here form_format (cases_inside cases) (λ xs. record {
+        none = λ is none v n c q fits. none q.form q.size 0 q.seen (fits_zero a.budget);
+        rejects = λ z ys. inl;
+        begins = λ z ys. inl;
+      }) (λ owned. refl) (λ takes. refl) (of_exact d)
 
   module _ (form : Bool × ℕ) (d : Decodes {E = E} form_format a m (Ok form)) where
     no_named : (xs : List ℕ) (i k : ℕ) → form_format.reads xs form i k

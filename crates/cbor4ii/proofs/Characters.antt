@@ -20,6 +20,7 @@ use Rattle.cbor4ii.specs.Character.RejectsChar.{no_text, not_one}
 use Rattle.cbor4ii.specs.ReadBack.{text_of}
 use Rattle.cbor4ii.specs.Typed.{no_number}
 use Rattle.cbor4ii.proofs.Stopped.{stopped_as}
+use Rattle.cbor4ii.proofs.Forms.{sound_by}
 
 -- ---- texts of one character
 
@@ -48,16 +49,7 @@ two_characters text middle rest c d e f only is =
 
 pub char_sound : {a b : View} {text : String Global} {c : ℕ} → text_content text ≡ encode_utf8 c
     → Sound (ReadsTextAs text_content) a b text → Sound ReadsChar a b c
-char_sound is s = record {
-  at = λ xs known. (let p = s.at xs known in record {
-    count = p.count;
-    cost = p.cost;
-    read =
-        subst (λ zs. ReadsText xs zs p.count p.cost) is p.read;
-    fits = p.fits;
-    left = p.left;
-  });
-}
+char_sound is s = sound_by s (λ xs n c r. subst (λ zs. ReadsText xs zs n c) is r)
 
 pub char_complete : {E : Type 0} {a : View} {e : DecodeError E} → Global
     → Complete (ReadsTextAs text_content) a e → Complete ReadsChar a e

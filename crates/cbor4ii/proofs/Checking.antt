@@ -8,11 +8,12 @@ use Rattle.cbor4ii_rw.specs.declared.error.DecodeError.{DecodeError}
 use Rattle.cbor4ii_rw.specs.declared.error.DecodeError.TheVariants.{Custom, OutOfMemory}
 use Rattle.cbor4ii_items.specs.Decoding.{RejectsAt, Rejects}
 use Rattle.cbor4ii_items.specs.Laws.Answering.{complete_as}
-use Rattle.cbor4ii_items.specs.Laws.Steps.{moves_ok, moves_err}
+use Rattle.cbor4ii_items.specs.Laws.Steps.{moves_err}
 use Rattle.cbor4ii.specs.Checked.{IsMade, RejectsChecked, checked_from}
 use Rattle.cbor4ii.specs.Typed.{Promise, Deserializes, no_number, not_exact}
-use Rattle.cbor4ii.proofs.Promised.{out_of_memory}
+use Rattle.cbor4ii.proofs.Promised.{ok, out_of_memory}
 use Rattle.cbor4ii.proofs.Stopped.{stopped_as}
+use Rattle.cbor4ii.proofs.Forms.{sound_by}
 
 or_left : (a b : Bool) → IsTrue a → IsTrue (a || b)
 or_left true b h = refl
@@ -27,23 +28,9 @@ module _ {V W E : Type 0} (p : Promise V) (words : V → Option (List ℕ)) (mak
   -- the test passed
   pub checked_ok : {v : V} {w : W} → IsMade words makes v w → Deserializes {E = E} p a b (Ok v)
       → Deserializes {E = E} (checked_from words makes takes_memory p) a b (Ok w)
-  checked_ok {v = v} made d = record {
-    moves = moves_ok d.moves;
-    progress = d.progress;
-    memory = tt;
-    sound = record {
-      at = λ xs known. let q = d.sound.at xs known in record {
-        count = q.count;
-        cost = q.cost;
-        read = record { part = v; read = q.read; made = made };
-        fits = q.fits;
-        left = q.left;
-      };
-    };
-    complete = λ is sure. tt;
-    rejects = λ is sure. tt;
-    begins = λ reports. tt;
-  }
+  checked_ok {v = v} made d =
+      ok (checked_from words makes takes_memory p) d.moves.by d.progress
+      (sound_by d.sound (λ xs n c r. record { part = v; read = r; made = made }))
 
   -- there was no value
   pub checked_err : {e : DecodeError E} → Deserializes p a b (Err e)

@@ -4,45 +4,31 @@ use Rattle.std.proofs.Common.{Result, Ok, Err, refl, ap, ◌∙◌, IfOk, IfErr,
 use Rattle.std.specs.Prelude.{codes}
 use denote.Ref.{Bor}
 use Rattle.cbor4ii_rw.specs.View.{View}
-use Rattle.cbor4ii_rw.specs.Reader.{Advances, KeepsAllButBudget}
+use Rattle.cbor4ii_rw.specs.Reader.{Advances, KeepsAllButBudget, step_back}
 use Rattle.cbor4ii_rw.specs.declared.error.DecodeError.{DecodeError}
 use Rattle.cbor4ii_rw.specs.declared.error.DecodeError.TheVariants.{Mismatch}
 use Rattle.cbor4ii_items.specs.Moves.{Moves}
 use Rattle.cbor4ii_items.specs.InputError.{InputError, mismatch}
 use Rattle.cbor4ii_items.specs.Next.{ReadsNext, RejectsNext}
 use Rattle.cbor4ii_items.specs.Decoding.{Reads, RejectsAt, Sound, NoneRead, Complete, Rejects}
-use Rattle.cbor4ii_items.specs.Laws.Answering.{fits_zero, complete_as}
+use Rattle.cbor4ii_items.specs.Laws.Answering.{complete_as}
+use Rattle.cbor4ii_items.specs.Laws.Steps.{moves_err}
 use Rattle.cbor4ii.specs.declared.serde.de.error.DecodeError.{DecodeError as Typed}
+use Rattle.cbor4ii.specs.Accessing.{Finishes}
 use Rattle.cbor4ii.specs.Typed.{as_core, answer_of, rejects_if_known}
 use Rattle.cbor4ii.specs.Variants.{IsForm, ReadsForm, RejectsForm, ReadsContent, RejectsContent}
-use Rattle.cbor4ii.proofs.Looking.{Saw, none_begins}
-use Rattle.cbor4ii.proofs.Stopped.{stopped_as, stopped_after}
+use Rattle.cbor4ii.proofs.Looking.{Saw, taken_sound, seen_sound, none_begins}
+use Rattle.cbor4ii.proofs.Stopped.{sound_after, stopped_as, stopped_after}
 use Rattle.cbor4ii.proofs.Beginnings.{said_left}
 
 -- ---- the form
 
 pub entry_sound : {a m c : View} {b : ℕ} → Saw a m b → b ≡ 0xa1 → Advances 1 m c
     → Sound ReadsForm a c (true, b)
-entry_sound {a = a} s is adv = record {
-  at = λ xs known. (let f = s.first xs known in record {
-    count = 1;
-    cost = 0;
-    read = (f.1, (is, refl), refl);
-    fits = fits_zero a.budget;
-    left = adv.known xs f.0;
-  });
-}
+entry_sound s is adv = taken_sound s adv (λ xs e. (e, (is, refl), refl))
 
 pub name_sound : {a m : View} {b : ℕ} → Saw a m b → b / 32 ≡ 3 → Sound ReadsForm a m (false, b)
-name_sound {a = a} s is = record {
-  at = λ xs known. (let f = s.first xs known in record {
-    count = 0;
-    cost = 0;
-    read = (f.1, (is, refl), refl);
-    fits = fits_zero a.budget;
-    left = f.0;
-  });
-}
+name_sound s is = seen_sound s (λ xs e some. (e, (is, refl), refl))
 
 other_first : (b : ℕ) (content : Bool) (first n : ℕ) → b ≡ first → b ≢ 0xa1 → b / 32 ≢ 3
     → IsForm content first n → ⊥
@@ -92,6 +78,15 @@ form_ended s = stopped_as (RejectsNext (codes "enum")) RejectsForm end_at s
 
 -- ---- the content
 
+-- an error, after which a step is given back
+pub given_back : {V W E : Type 0} {a b d : View} {e : DecodeError E} → Moves {V = V} a b (Err e)
+    → d.budget ≡ step_back b.budget → KeepsAllButBudget b d → Finishes {V = W} 1 a d (Err e)
+given_back {b = b} moves budget others = record {
+  within = b;
+  moves = moves_err moves;
+  closes = record { budget = budget; others = others };
+}
+
 pub content_complete : {V E : Type 0} (reads : Reads V) {content : Bool} {a : View}
     {e : DecodeError E} → content ≡ true → Complete reads a e
     → Complete (ReadsContent content reads) a e
@@ -102,26 +97,13 @@ pub content_rejects : {E : Type 0} (rejects : RejectsAt) {content : Bool} (first
     → Rejects (RejectsContent (content, first) rejects) a d e
 content_rejects rejects first is k s = rw is (stopped_after rejects k s)
 
-content_sound : {V : Type 0} (reads : Reads V) {a b d : View} {v : V} → KeepsAllButBudget b d
-    → Sound reads a b v → Sound reads a d v
-content_sound reads k s =
-    record {
-      at = λ xs known. (let p = s.at xs known in record {
-        count = p.count;
-        cost = p.cost;
-        read = p.read;
-        fits = p.fits;
-        left = k.known ∙ p.left;
-      });
-    }
-
 -- the content is read, and the step is given back
 pub content_ok : {V E : Type 0} (reads : Reads V) {content : Bool} (r : Result V (Typed E))
     (a b d : View) → content ≡ true → KeepsAllButBudget b d → IfOk r (Sound reads a b)
     → IfOk r (Sound (ReadsContent content reads) a d)
 content_ok reads r a b d is k s =
     rw is (elim r as (λ t. IfOk t (Sound reads a b) → IfOk t (Sound reads a d)) [
-      | Ok v ↦ (λ w. content_sound reads k w)
+      | Ok v ↦ (λ w. sound_after reads k w)
       | Err e ↦ (λ w. tt)
     ] s)
 

@@ -11,12 +11,12 @@ use Rattle.cbor4ii_items.specs.Sequences.{ReadsPair, RejectsAfterKey, pair_forma
 use Rattle.cbor4ii_items.specs.Laws.Calls.{ok, err_after, of_exact, exact_less}
 use Rattle.cbor4ii_items.specs.Laws.Containers.{both}
 use Rattle.cbor4ii_items.specs.Laws.Pairs.{pair_sound, key_less, value_less, or_left, or_right}
-use Rattle.cbor4ii_items.specs.Laws.Running.{kept_alike}
 use Rattle.cbor4ii_items.specs.Laws.Steps.{kept_then}
 use Rattle.cbor4ii.specs.declared.serde.de.accessor.Left.{Left}
 use Rattle.cbor4ii.specs.declared.serde.de.accessor.Left.TheVariants.{Definite, Indefinite, Ended}
 use Rattle.cbor4ii.specs.Accessing.{Next, next_part_format}
 use Rattle.cbor4ii.proofs.Going.{part_of, part_start}
+use Rattle.cbor4ii.proofs.Forms.{sound_by, err_here}
 
 -- what else stands there is read in its place
 in_place : {V W : Type 0} (reads : Reads V) (other : Reads W) (left : Left) (xs : List ℕ) (v : V)
@@ -37,15 +37,7 @@ same_end reads other Ended xs n c h = h
 
 key_at : {K : Type 0} (key : Reads K) (left : Left) {a m : View} {k : K}
     → Sound (Next key left) a m (Some k) → Sound key a m k
-key_at key left {k = k} s = record {
-  at = λ xs known. let p = s.at xs known in record {
-    count = p.count;
-    cost = p.cost;
-    read = part_of key left xs k p.count p.cost p.read;
-    fits = p.fits;
-    left = p.left;
-  };
-}
+key_at key left {k = k} s = sound_by s (λ xs n c r. part_of key left xs k n c r)
 
 -- where a part comes it is not the end
 no_end : {V : Type 0} (reads : Reads V) (left : Left) (xs : List ℕ) (v : V) (n c m d : ℕ)
@@ -83,35 +75,22 @@ module _ {K V : Type 0} (k : Format K) (v : Format V) (left : Left) where
     pub entry_none : {x y : Bool} → DecodesIf {E = E} x (next_part_format left k) a m (Ok None)
         → DecodesIf {E = E} y (next_part_format left (pair_format k v)) a m (Ok None)
     entry_none d = of_exact (ok (next_part_format left (pair_format k v)) d.moves.by (λ some. cc)
-        (record {
-          at = λ xs known. let p = d.sound.at xs known in record {
-            count = p.count;
-            cost = p.cost;
-            read = same_end k.reads (ReadsPair k.reads v.reads) left xs p.count p.cost p.read;
-            fits = p.fits;
-            left = p.left;
-          };
-        }))
+        (sound_by d.sound (same_end k.reads (ReadsPair k.reads v.reads) left)))
 
     pub no_key_left : {x : Bool} (y : Bool) {e : DecodeError E}
         → DecodesIf x (next_part_format left k) a m (Err e)
         → DecodesIf (x && y) (next_part_format left (pair_format k v)) a m (Err e)
     no_key_left {x = x} y d =
-        err_after (next_part_format left k) (next_part_format left (pair_format k v)) (kept_alike a)
-        (λ xs known. (
-          xs,
-          known,
-          record {
-            none = λ is. no_key xs a.budget;
-            rejects = λ z ys h. elim h [
-              | inl none ↦ inl none
-              | inr part ↦ inr
-                  (part.0, inl part.1)
-            ];
-            begins =
-                λ z ys h. elim h [ inl none ↦ inl none | inr part ↦ inr (part.0, inl part.1) ];
-          },
-        )) (λ owned. (both k.owned v.owned owned).0) (or_left k.takes_memory v.takes_memory)
+        err_here (next_part_format left k) (next_part_format left (pair_format k v)) (λ xs. record {
+          none = λ is. no_key xs a.budget;
+          rejects = λ z ys h. elim h [
+            | inl none ↦ inl none
+            | inr part ↦ inr
+                (part.0, inl part.1)
+          ];
+          begins =
+              λ z ys h. elim h [ inl none ↦ inl none | inr part ↦ inr (part.0, inl part.1) ];
+        }) (λ owned. (both k.owned v.owned owned).0) (or_left k.takes_memory v.takes_memory)
         (exact_less (λ is. (both x y is).0) d)
 
     module _ {x : Bool} {key : K} {b : View}

@@ -14,10 +14,9 @@ use Rattle.cbor4ii_items.specs.Laws.Steps.{moves_ok, moves_err}
 use Rattle.cbor4ii_items.specs.Reading.{Runs}
 use Rattle.cbor4ii_items.specs.ReadStrings.{break_at}
 use Rattle.cbor4ii_items.specs.Sequences.{count_of, indefinite_of, in_list}
-use Rattle.cbor4ii_items.specs.Laws.Calls.{ok as decoded_ok, err_after, part_then, Leads, of_exact}
+use Rattle.cbor4ii_items.specs.Laws.Calls.{ok as decoded_ok, part_then, Leads, of_exact}
 use Rattle.cbor4ii_items.specs.Laws.Calls.{exact_less, exactly_ok}
 use Rattle.cbor4ii_items.specs.Laws.Containers.{both}
-use Rattle.cbor4ii_items.specs.Laws.Running.{kept_alike}
 use Rattle.cbor4ii_items.specs.Laws.SequenceParts.{Begun, count_more, count_done, Stands, Opened}
 use Rattle.cbor4ii_items.specs.Laws.SequenceParts.{indefinite_more, indefinite_done}
 use Rattle.cbor4ii.specs.FieldKey.{FieldKey, key_format, labels_by}
@@ -36,6 +35,7 @@ use Rattle.cbor4ii.proofs.Named.{key_err, entry_then}
 use Rattle.cbor4ii.proofs.Labels.{keys_split, keys_none}
 use Rattle.cbor4ii.proofs.Promised.{promised, tell}
 use Rattle.cbor4ii.proofs.Steps.{under_if}
+use Rattle.cbor4ii.proofs.Forms.{sound_by, err_here}
 
 -- ---- after a name
 
@@ -47,28 +47,17 @@ module _ {V : Type 0} (f : Fields V) (name : List ℕ) (values : V) {a b : View}
       → Alters one_change exact (after_name f name) values values a b r
   skips exact (Ok u) none rejects begins d = record {
     what = λ v. v;
-    read = decoded_ok (after_name f name) d.moves.by (λ some. cc) (record {
-      at = λ xs known. let p = d.sound.at xs known in record {
-        count = p.count;
-        cost = p.cost;
-        read = subst (λ named. named name xs (λ v. v) p.count p.cost) (sym none) (p.read, refl);
-        fits = p.fits;
-        left = p.left;
-      };
-    });
+    read = decoded_ok (after_name f name) d.moves.by (λ some. cc) (sound_by d.sound (λ xs n c r.
+        subst (λ named. named name xs (λ v. v) n c) (sym none) (r, refl)));
     is = refl;
   }
   skips exact (Err e) none rejects begins d =
-      err_after skipped_format (after_name f name) (kept_alike a) (λ xs known. (
-        xs,
-        known,
-        record {
-          none = λ is skipped g n c q fits.
-              skipped tt n c (subst (λ named. named name xs g n c) none q).0 fits;
-          rejects = λ z ys h. subst (λ at. at name xs a.budget z ys) (sym rejects) h;
-          begins = λ z ys h. subst (λ at. at name xs a.budget z ys) (sym begins) h;
-        },
-      )) (λ owned. refl) (λ takes. refl) (of_exact d)
+      err_here skipped_format (after_name f name) (λ xs. record {
+        none = λ is skipped g n c q fits.
+            skipped tt n c (subst (λ named. named name xs g n c) none q).0 fits;
+        rejects = λ z ys h. subst (λ at. at name xs a.budget z ys) (sym rejects) h;
+        begins = λ z ys h. subst (λ at. at name xs a.budget z ys) (sym begins) h;
+      }) (λ owned. refl) (λ takes. refl) (of_exact d)
 
 module _ {T P V E : Type 0} (place : Place T P) (own : List ℕ) (p : Promise T)
     (others : Fields V) {name : List ℕ} (a b : View) where
@@ -79,15 +68,7 @@ module _ {T P V E : Type 0} (place : Place T P) (own : List ℕ) (p : Promise T)
   field_ok {v = v} same filled d = record {
     what = λ values. (place.put v values.0, values.1);
     read = decoded_ok (after_name (placed_field place own p others) name) d.moves.by (λ some. cc)
-        (record {
-          at = λ xs known. let q = d.sound.at xs known in record {
-            count = q.count;
-            cost = q.cost;
-            read = inl (same, v, q.read, refl);
-            fits = q.fits;
-            left = q.left;
-          };
-        });
+        (sound_by d.sound (λ xs n c r. inl (same, v, r, refl)));
     is = filled;
   }
 
@@ -96,17 +77,12 @@ module _ {T P V E : Type 0} (place : Place T P) (own : List ℕ) (p : Promise T)
       (after_name (placed_field place own p others) name) a
       b (Err e)
   field_err same d =
-      err_after (part_of p) (after_name (placed_field place own p others) name) (kept_alike a)
-      (λ xs known. (
-        xs,
-        known,
-        record {
-          none = λ is none change n c q fits. elim q
-              [ inl w ↦ none w.1 n c w.2 fits | inr w ↦ absurd (w.0 same) ];
-          rejects = λ z ys h. inl (same, h);
-          begins = λ z ys h. inl (same, h);
-        },
-      )) (λ owned. (both p.format.owned others.owned owned).0) (λ takes. refl)
+      err_here (part_of p) (after_name (placed_field place own p others) name) (λ xs. record {
+        none = λ is none change n c q fits. elim q
+            [ inl w ↦ none w.1 n c w.2 fits | inr w ↦ absurd (w.0 same) ];
+        rejects = λ z ys h. inl (same, h);
+        begins = λ z ys h. inl (same, h);
+      }) (λ owned. (both p.format.owned others.owned owned).0) (λ takes. refl)
       (exact_less (λ is. (both p.exact others.exact is).0) (tell p (Err _) d))
 
   pub field_put : {U : Type 0} (r : Result U (DecodeError E)) (first : P × V) (after : P)
@@ -128,30 +104,17 @@ module _ {T P V E : Type 0} (place : Place T P) (own : List ℕ) (p : Promise T)
     what = λ values. (values.0, h.what values.1);
     read = decoded_ok (after_name (placed_field place own p others) name) h.read.moves.by
         (λ some. cc)
-        (record {
-          at = λ xs known. let q = h.read.sound.at xs known in record {
-            count = q.count;
-            cost = q.cost;
-            read = inr (not, h.what, q.read, refl);
-            fits = q.fits;
-            left = q.left;
-          };
-        });
+        (sound_by h.read.sound (λ xs n c r. inr (not, h.what, r, refl)));
     is = filled ∙ ap (λ v. (first.0, v)) h.is;
   }
   field_below (Err e) first last below not filled h =
-      err_after (after_name others name) (after_name (placed_field place own p others) name)
-      (kept_alike a)
-      (λ xs known. (
-        xs,
-        known,
-        record {
-          none = λ is none change n c q fits. elim q
-              [ inl w ↦ absurd (not w.0) | inr w ↦ none w.1 n c w.2 fits ];
-          rejects = λ z ys h. inr (not, h);
-          begins = λ z ys h. inr (not, h);
-        },
-      )) (λ owned. (both p.format.owned others.owned owned).1) (λ takes. refl)
+      err_here (after_name others name) (after_name (placed_field place own p others) name)
+      (λ xs. record {
+        none = λ is none change n c q fits. elim q
+            [ inl w ↦ absurd (not w.0) | inr w ↦ none w.1 n c w.2 fits ];
+        rejects = λ z ys h. inr (not, h);
+        begins = λ z ys h. inr (not, h);
+      }) (λ owned. (both p.format.owned others.owned owned).1) (λ takes. refl)
       (exact_less (λ is. (both p.exact others.exact is).1) h)
 
 module _ {T P U E : Type 0} (place : Place T P) (p : Promise T) (before after : P)
@@ -325,28 +288,16 @@ module _ {V W E : Type 0} (values : W → V) (key : FieldKey) (f : Fields V) {a 
       → Decodes {E = E} (struct_of values key f).format a b (Ok w)
   filled_ok h =
       decoded_ok (struct_of values key f).format h.read.moves.by (λ some. h.read.progress refl)
-      (record {
-        at = λ xs known. let p = h.read.sound.at xs known in record {
-          count = p.count;
-          cost = p.cost;
-          read = (h.what, p.read, h.is);
-          fits = p.fits;
-          left = p.left;
-        };
-      })
+      (sound_by h.read.sound (λ xs n c r. (h.what, r, h.is)))
 
   pub filled_err : {e : DecodeError E} → DecodesIf f.exact (field_pairs key f) a b (Err e)
       → DecodesIf f.exact (struct_of values key f).format a b (Err e)
   filled_err =
-      err_after (field_pairs key f) (struct_of values key f).format (kept_alike a) (λ xs known. (
-        xs,
-        known,
-        record {
-          none = λ is none w n c q fits. none q.0 n c q.1 fits;
-          rejects = λ z ys h. h;
-          begins = λ z ys h. h;
-        },
-      )) (λ o. o) (λ takes. refl)
+      err_here (field_pairs key f) (struct_of values key f).format (λ xs. record {
+        none = λ is none w n c q fits. none q.0 n c q.1 fits;
+        rejects = λ z ys h. h;
+        begins = λ z ys h. h;
+      }) (λ o. o) (λ takes. refl)
 
   pub struct_ok : {w : W} → Altered E all_changes (field_pairs key f) f.first (values w) a b
       → Deserializes {E = E} (struct_of values key f) a b (Ok w)

@@ -8,13 +8,13 @@ use Rattle.cbor4ii_items.specs.Decoding.{Reads, Sound, NoneRead, Format, Decodes
 use Rattle.cbor4ii_items.specs.Strings.{ReadsBreak, break_format}
 use Rattle.cbor4ii_items.specs.Laws.Answering.{fits_zero, complete_as}
 use Rattle.cbor4ii_items.specs.Laws.Calls.{ok, ok_after, err_after, of_exact}
-use Rattle.cbor4ii_items.specs.Laws.Running.{kept_alike}
 use Rattle.cbor4ii_items.specs.Laws.Steps.{moves_err}
 use Rattle.cbor4ii.specs.declared.serde.de.accessor.Left.{Left}
 use Rattle.cbor4ii.specs.declared.serde.de.accessor.Left.TheVariants.{Definite, Indefinite, Ended}
 use Rattle.cbor4ii.specs.Accessing.{Next, ReadsStart, LeftAfterStart, MayGoOn, fuel, left_then}
 use Rattle.cbor4ii.specs.Accessing.{left_tried}
 use Rattle.cbor4ii.specs.Accessing.{start_format, next_part_format}
+use Rattle.cbor4ii.proofs.Forms.{sound_by, err_here, found_here}
 
 -- ---- whether a part comes
 
@@ -32,15 +32,7 @@ module _ {E : Type 0} {a b : View} where
   pub start_indefinite : {ended : Bool} → Decodes {E = E} break_format a b (Ok ended)
       → Decodes {E = E} (start_format Indefinite) a b (Ok (not ended))
   start_indefinite {ended = ended} d =
-      ok (start_format Indefinite) d.moves.by (λ some. cc) (record {
-        at = λ xs known. let p = d.sound.at xs known in record {
-          count = p.count;
-          cost = p.cost;
-          read = started ended xs p.count p.cost p.read;
-          fits = p.fits;
-          left = p.left;
-        };
-      })
+      ok (start_format Indefinite) d.moves.by (λ some. cc) (sound_by d.sound (started ended))
 
   pub start_rejected : {e : DecodeError E} → Decodes break_format a b (Err e)
       → Decodes (start_format Indefinite) a b (Err e)
@@ -147,28 +139,18 @@ start_free Ended xs n c h = h
 module _ {V E : Type 0} (left : Left) (s : Format V) {a m : View} where
   pub next_end : Decodes {E = E} (start_format left) a m (Ok false)
       → Decodes {E = E} (next_part_format left s) a m (Ok None)
-  next_end d = ok (next_part_format left s) d.moves.by (λ some. cc) (record {
-    at = λ xs known. let p = d.sound.at xs known in record {
-      count = p.count;
-      cost = p.cost;
-      read = end_read s.reads left xs p.count p.cost p.read;
-      fits = p.fits;
-      left = p.left;
-    };
-  })
+  next_end d =
+      ok (next_part_format left s) d.moves.by (λ some. cc)
+      (sound_by d.sound (end_read s.reads left))
 
   pub next_rejected : {exact : Bool} {e : DecodeError E} → Decodes (start_format left) a m (Err e)
       → DecodesIf exact (next_part_format left s) a m (Err e)
   next_rejected d =
-      err_after (start_format left) (next_part_format left s) (kept_alike a) (λ xs known. (
-        xs,
-        known,
-        record {
-          none = λ is. none_next s.reads left xs a.budget;
-          rejects = λ z ys. inl;
-          begins = λ z ys. inl;
-        },
-      )) (λ owned. refl) (λ takes. (let no : false ≡ _ = takes in cc)) (of_exact d)
+      err_here (start_format left) (next_part_format left s) (λ xs. record {
+        none = λ is. none_next s.reads left xs a.budget;
+        rejects = λ z ys. inl;
+        begins = λ z ys. inl;
+      }) (λ owned. refl) (λ takes. (let no : false ≡ _ = takes in cc)) (of_exact d)
 
   module _ {b : View} (d : Decodes {E = E} (start_format left) a m (Ok true)) where
     pub next_part : {v : V} → Decodes {E = E} s m b (Ok v)
@@ -177,13 +159,8 @@ module _ {V E : Type 0} (left : Left) (s : Format V) {a m : View} where
         let p = d.sound.at xs known in (
           xs,
           start_stays left d.sound xs known,
-          λ n c r fits. record {
-            count = n;
-            cost = c;
-            read = part_read s.reads left xs v p.count p.cost n c p.read r;
-            fits = fits;
-            left = refl;
-          },
+          λ n c r fits. found_here n c
+              (part_read s.reads left xs v p.count p.cost n c p.read r) fits,
         )) (λ some. cc) t
 
     pub next_err : {exact : Bool} {e : DecodeError E} → DecodesIf exact s m b (Err e)

@@ -10,20 +10,15 @@ use Rattle.cbor4ii_items.specs.Laws.Steps.{moves_err}
 use Rattle.cbor4ii.specs.declared.serde.de.error.DecodeError.{DecodeError}
 use Rattle.cbor4ii.specs.Borrowed.{Copies, Unwraps}
 use Rattle.cbor4ii.specs.Typed.{as_core, answer_of}
+use Rattle.cbor4ii.proofs.Forms.{sound_by}
 
 module _ {U V W : Type 0} (s : Format U) (found : V → U) (handed : W → U) {a b : View} where
   another_ok : {E : Type 0} {v : V} {w : W} → handed w ≡ found v
       → Decodes {E = E} (format_by found s) a b (Ok v)
       → Decodes {E = E} (format_by handed s) a b (Ok w)
-  another_ok same d = ok (format_by handed s) d.moves.by d.progress (record {
-    at = λ xs known. let t = d.sound.at xs known in record {
-      count = t.count;
-      cost = t.cost;
-      read = subst (λ u. s.reads xs u t.count t.cost) (sym same) t.read;
-      fits = t.fits;
-      left = t.left;
-    };
-  })
+  another_ok same d =
+      ok (format_by handed s) d.moves.by d.progress
+      (sound_by d.sound (λ xs n c r. subst (λ u. s.reads xs u n c) (sym same) r))
 
   another_err : {E : Type 0} {e : CoreError E} → ((w : W) → (v : V) × (found v ≡ handed w))
       → Decodes (format_by found s) a b (Err e) → Decodes (format_by handed s) a b (Err e)

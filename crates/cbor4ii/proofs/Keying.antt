@@ -1,5 +1,5 @@
 -- Keys that are integers, and what follows them.
-use Rattle.std.proofs.Common.{◌≡◌, ◌≢◌, ◌≤◌, ◌/◌, ◌∙◌, ℕ, ℤ, List, [], ◌∷◌, take, drop, Option}
+use Rattle.std.proofs.Common.{◌≡◌, ◌≢◌, ◌/◌, ◌∙◌, ℕ, ℤ, List, [], ◌∷◌, take, drop, Option}
 use Rattle.std.proofs.Common.{Some, Result, Ok, Err, Bool, true, false, refl, sym, ap, subst, arith}
 use Rattle.std.specs.Prelude.{codes, nat_eq}
 use denote.Ref.{Bor}
@@ -13,7 +13,6 @@ use Rattle.cbor4ii_items.specs.Next.{ReadsNext, next_format}
 use Rattle.cbor4ii_items.specs.Numbers.{ReadsI128, RejectsI128, no_i128_byte}
 use Rattle.cbor4ii_items.specs.Laws.Answering.{fits_zero}
 use Rattle.cbor4ii_items.specs.Laws.Calls.{ok_after, err_after, of_exact, decodes_exactly}
-use Rattle.cbor4ii_items.specs.Laws.Running.{kept_alike}
 use Rattle.cbor4ii_ser.specs.Listed.{integer_label}
 use Rattle.cbor4ii.specs.FieldKey.{key_format, text_key}
 use Rattle.cbor4ii.specs.Keys.{begins_text, ReadsKey, ReadsKeyBy, RejectsKey, RejectsKeyBy}
@@ -22,6 +21,7 @@ use Rattle.cbor4ii.specs.Names.{StandsAt, KeyAt}
 use Rattle.cbor4ii.specs.Typed.{typed_format, answer_of}
 use Rattle.cbor4ii.specs.declared.serde.de.error.DecodeError.{DecodeError as TypedError}
 use Rattle.std.proofs.lemmas.Bool.{ne_eqb}
+use Rattle.cbor4ii.proofs.Forms.{err_here, found_here}
 
 -- ---- a key, by its first byte
 
@@ -58,13 +58,8 @@ module _ {E : Type 0} {a m b : View} where
       let s = h.at xs known in (
         xs,
         s.0,
-        λ n c r fits. record {
-          count = n;
-          cost = c;
-          read = subst (λ flag. ReadsKeyBy flag xs [] n c) (sym s.1) (text, r, refl);
-          fits = fits;
-          left = refl;
-        },
+        λ n c r fits. found_here n c
+            (subst (λ flag. ReadsKeyBy flag xs [] n c) (sym s.1) (text, r, refl)) fits,
       )) (λ some. omega (arith, d.progress refl, h.kept.bound)) d
 
   pub text_err : {e : DecodeError E} → Comes true a m → Decodes (key_format text_key) m b (Err e)
@@ -90,13 +85,8 @@ module _ {E : Type 0} {a m b : View} where
       let s = h.at xs known in (
         xs,
         s.0,
-        λ n c r fits. record {
-          count = n;
-          cost = c;
-          read = subst (λ flag. ReadsKeyBy flag xs (integer_label v) n c) (sym s.1) (v, r, refl);
-          fits = fits;
-          left = refl;
-        },
+        λ n c r fits. found_here n c
+            (subst (λ flag. ReadsKeyBy flag xs (integer_label v) n c) (sym s.1) (v, r, refl)) fits,
       )) (λ some. omega (arith, d.progress refl, h.kept.bound)) d
 
   pub integer_err : {e : DecodeError E} → Comes false a m → Decodes integer_format m b (Err e)
@@ -143,16 +133,11 @@ pub no_key : {E : Type 0} {a b : View} {e : DecodeError E}
     → Decodes (next_format (codes "i128")) a b (Err e) → Decodes (key_format integer_key) a b (Err
     e)
 no_key {a = a} d =
-    decodes_exactly (err_after (next_format (codes "i128")) (key_format integer_key) (kept_alike a)
-    (λ xs known. (
-      xs,
-      known,
-      record {
-        none = λ is none. nothing_read xs a.budget none;
-        rejects = λ z ys. nothing_comes xs a.budget z ys;
-        begins = λ z ys. nothing_comes xs a.budget z ys;
-      },
-    )) (λ owned. refl) (λ takes. refl) (of_exact d))
+    decodes_exactly (err_here (next_format (codes "i128")) (key_format integer_key) (λ xs. record {
+      none = λ is none. nothing_read xs a.budget none;
+      rejects = λ z ys. nothing_comes xs a.budget z ys;
+      begins = λ z ys. nothing_comes xs a.budget z ys;
+    }) (λ owned. refl) (λ takes. refl) (of_exact d))
 
 -- ---- its place
 

@@ -47,6 +47,32 @@ saw {b = b} m s = record {
   budget = m.by.budget;
 }
 
+-- a byte that was seen, and then taken
+pub taken_sound : {V : Type 0} {reads : Reads V} {a m c : View} {b : ℕ} {v : V} → Saw a m b
+    → Advances 1 m c → ((xs : List ℕ) → take 1 xs ≡ b ∷ [] → reads xs v 1 0) → Sound reads a c v
+taken_sound {a = a} s adv read = record {
+  at = λ xs known. (let f = s.first xs known in record {
+    count = 1;
+    cost = 0;
+    read = read xs f.1;
+    fits = fits_zero a.budget;
+    left = adv.known xs f.0;
+  });
+}
+
+-- and one that stayed
+pub seen_sound : {V : Type 0} {reads : Reads V} {a m : View} {b : ℕ} {v : V} → Saw a m b
+    → ((xs : List ℕ) → take 1 xs ≡ b ∷ [] → 1 ≤ length xs → reads xs v 0 0) → Sound reads a m v
+seen_sound {a = a} s read = record {
+  at = λ xs known. (let f = s.first xs known in record {
+    count = 0;
+    cost = 0;
+    read = read xs f.1 f.2;
+    fits = fits_zero a.budget;
+    left = f.0;
+  });
+}
+
 -- ---- a value or none
 
 pub some_sound : {V : Type 0} (reads : Reads V) {a m b : View} {v : V} {first : ℕ} → Saw a m first
@@ -71,16 +97,8 @@ begins_null xs b e (inr is) = inr (e ∙ ap (λ z. z ∷ []) is)
 
 pub null_sound : {V : Type 0} (reads : Reads V) {a m c : View} {b : ℕ} → Saw a m b
     → (b ≡ 0xf6) ⊎ (b ≡ 0xf7) → Advances 1 m c → Sound (ReadsOption reads) a c None
-null_sound reads {a = a} {b = b} s is adv = record {
-  at = λ xs known. (let f = s.first xs known in
-      record {
-        count = 1;
-        cost = 0;
-        read = (begins_null xs b f.1 is, refl, refl);
-        fits = fits_zero a.budget;
-        left = adv.known xs f.0;
-      });
-}
+null_sound reads {b = b} s is adv =
+    taken_sound s adv (λ xs e. (begins_null xs b e is, refl, refl))
 
 pub some_complete : {V E : Type 0} (reads : Reads V) {a m : View} {e : DecodeError E} {first : ℕ}
     → Saw a m first → first ≢ 0xf6 → first ≢ 0xf7

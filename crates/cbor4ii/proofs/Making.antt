@@ -6,34 +6,22 @@ use Rattle.cbor4ii_rw.specs.declared.error.DecodeError.{DecodeError}
 use Rattle.cbor4ii_rw.specs.declared.error.DecodeError.TheVariants.{Custom}
 use Rattle.cbor4ii_items.specs.Decoding.{RejectsAt, Rejects}
 use Rattle.cbor4ii_items.specs.Laws.Answering.{complete_as}
-use Rattle.cbor4ii_items.specs.Laws.Steps.{moves_ok, moves_err}
+use Rattle.cbor4ii_items.specs.Laws.Steps.{moves_err}
 use Rattle.cbor4ii.specs.Made.{RejectsMade, made_from, made_or_rejected, made_rejects}
 use Rattle.cbor4ii.specs.Made.{made_begins}
 use Rattle.cbor4ii.specs.Presence.{SameFate}
 use Rattle.cbor4ii.specs.Typed.{Promise, Deserializes, no_number, not_exact}
+use Rattle.cbor4ii.proofs.Promised.{ok}
 use Rattle.cbor4ii.proofs.Stopped.{stopped_as}
+use Rattle.cbor4ii.proofs.Forms.{sound_by}
 
 module _ {V W E : Type 0} (p : Promise V) {a b : View} where
   -- it was made
   pub from_ok : {v : V} {w : W} (gives : V → W → Type 0) → gives v w
       → Deserializes {E = E} p a b (Ok v) → Deserializes {E = E} (made_from gives p) a b (Ok w)
-  from_ok {v = v} gives made d = record {
-    moves = moves_ok d.moves;
-    progress = d.progress;
-    memory = tt;
-    sound = record {
-      at = λ xs known. let q = d.sound.at xs known in record {
-        count = q.count;
-        cost = q.cost;
-        read = record { part = v; read = q.read; made = made };
-        fits = q.fits;
-        left = q.left;
-      };
-    };
-    complete = λ is sure. tt;
-    rejects = λ is sure. tt;
-    begins = λ reports. tt;
-  }
+  from_ok {v = v} gives made d =
+      ok (made_from gives p) d.moves.by d.progress
+      (sound_by d.sound (λ xs n c r. record { part = v; read = r; made = made }))
 
   pub from_err : {e : DecodeError E} (gives : V → W → Type 0) → Deserializes p a b (Err e)
       → Deserializes (made_from gives p) a b (Err e)
@@ -52,23 +40,9 @@ module _ {V W E : Type 0} (p : Promise V) {a b : View} where
   pub made_ok : {v : V} {w : W} (value : V → Result W (List ℕ)) → value v ≡ Ok w
       → Deserializes {E = E} p a b (Ok v)
       → Deserializes {E = E} (made_or_rejected value p) a b (Ok w)
-  made_ok {v = v} value made d = record {
-    moves = moves_ok d.moves;
-    progress = d.progress;
-    memory = tt;
-    sound = record {
-      at = λ xs known. let q = d.sound.at xs known in record {
-        count = q.count;
-        cost = q.cost;
-        read = record { part = v; read = q.read; made = made };
-        fits = q.fits;
-        left = q.left;
-      };
-    };
-    complete = λ is sure. tt;
-    rejects = λ is sure. tt;
-    begins = λ reports. tt;
-  }
+  made_ok {v = v} value made d =
+      ok (made_or_rejected value p) d.moves.by d.progress
+      (sound_by d.sound (λ xs n c r. record { part = v; read = r; made = made }))
 
   pub made_err : {e : DecodeError E} (value : V → Result W (List ℕ)) → Deserializes p a b (Err e)
       → Deserializes (made_or_rejected value p) a b (Err e)

@@ -7,28 +7,23 @@ use Rattle.cbor4ii_items.specs.Decoding.{Reads, NoneRead, Decodes, DecodesIf}
 use Rattle.cbor4ii_items.specs.Laws.Calls.{ok_after, err_after, of_exact, exactly_ok}
 use Rattle.cbor4ii_items.specs.Laws.Prefixes.{drop_more}
 use Rattle.cbor4ii_items.specs.Laws.Pairs.{less_max_left, less_max_right}
-use Rattle.cbor4ii_items.specs.Laws.Running.{kept_alike}
 use Rattle.cbor4ii_items.specs.Laws.SequenceParts.{fits_less, fits_max}
 use Rattle.cbor4ii.specs.FieldKey.{FieldKey, key_format}
 use Rattle.cbor4ii.specs.Fields.{RejectsNamed, named_part, keyed_pair}
+use Rattle.cbor4ii.proofs.Forms.{err_here}
 
 module _ {W E : Type 0} (key : FieldKey) (named : List ℕ → Reads W)
     (rejects begins : RejectsNamed) (same : W → W → Type 0) (owned : Bool) {a m : View} where
   pub key_err : {exact : Bool} {e : DecodeError E} → Decodes (key_format key) a m (Err e)
       → DecodesIf exact (keyed_pair key named rejects begins same owned) a m (Err e)
   key_err d =
-      err_after (key_format key) (keyed_pair key named rejects begins same owned) (kept_alike a)
-      (λ xs known. (
-        xs,
-        known,
-        record {
-          none = λ is none g n c q fits. none q.0 q.1.key_size q.1.key_cost q.1.key
-              (fits_less q.1.key_cost c a.budget
-              (less_max_left c q.1.key_cost q.1.value_cost q.1.cost) fits);
-          rejects = λ z ys. inl;
-          begins = λ z ys. inl;
-        },
-      )) (λ owned. refl) (λ takes. takes) (of_exact d)
+      err_here (key_format key) (keyed_pair key named rejects begins same owned) (λ xs. record {
+        none = λ is none g n c q fits. none q.0 q.1.key_size q.1.key_cost q.1.key
+            (fits_less q.1.key_cost c a.budget
+            (less_max_left c q.1.key_cost q.1.value_cost q.1.cost) fits);
+        rejects = λ z ys. inl;
+        begins = λ z ys. inl;
+      }) (λ owned. refl) (λ takes. takes) (of_exact d)
 
   module _ {label : List ℕ} (d : Decodes {E = E} (key_format key) a m (Ok label)) where
     no_value : (xs : List ℕ) (i k : ℕ) → key.reads xs label i k

@@ -1,8 +1,7 @@
 -- Names of fields, found among some names and taken.
-use Rattle.std.proofs.Common.{◌-◌, ◌≡◌, ◌≢◌, inl, ℕ, zero, suc, ◌+◌, ◌<◌, ◌≤◌, ◌/◌, ◌%◌, List, []}
+use Rattle.std.proofs.Common.{◌-◌, ◌≡◌, inl, ℕ, suc, ◌+◌, ◌<◌, ◌≤◌, ◌/◌, ◌%◌, List, []}
 use Rattle.std.proofs.Common.{◌∷◌, length, take, drop, get_or, slice_index_or, Result, Ok, Err}
-use Rattle.std.proofs.Common.{refl, sym, ap, ap₂, ◌∙◌, subst, arith, ◌++◌, ◌^◌}
-use Rattle.std.proofs.Math.Seq.{take-length}
+use Rattle.std.proofs.Common.{refl, sym, ap, ap₂, ◌∙◌, subst, arith, ◌++◌}
 use Rattle.std.proofs.Math.Seq.{take-append_seam}
 use Rattle.std.proofs.lemmas.List.{length-take-le, take-append-drop, append_assoc}
 use Rattle.std.specs.Prelude.{IsUtf8, IfSome, Option, None, Some, true, codes}
@@ -14,7 +13,7 @@ use Rattle.cbor4ii_rw.specs.Reader.{Shows, Advances, IsPrefix}
 use Rattle.cbor4ii_rw.specs.declared.error.DecodeError.{DecodeError}
 use Rattle.cbor4ii_items.specs.Decoding.{Decodes, Format, NoneRead}
 use Rattle.cbor4ii_items.specs.Budget.{CostFits}
-use Rattle.cbor4ii_items.specs.Head.{Width, in_first, one, two, four, eight, head, byte_count}
+use Rattle.cbor4ii_items.specs.Head.{Width, in_first, one, head, byte_count}
 use Rattle.cbor4ii_items.specs.Head.{HeadFits}
 use Rattle.cbor4ii_items.specs.Heads.{ReadsHead}
 use Rattle.cbor4ii_items.specs.Lent.{Stays}
@@ -33,6 +32,7 @@ use Rattle.cbor4ii.specs.Names.{KeyAt, TakesKey}
 use Rattle.cbor4ii.specs.declared.serde.de.names.Seen.{Seen}
 use Rattle.cbor4ii.specs.declared.serde.de.names.Seen.TheVariants.{Whole, Cut, Other}
 use Rattle.cbor4ii.specs.Typed.{typed_format}
+use Rattle.cbor4ii.proofs.Forms.{sound_by}
 
 -- ---- a name that stands whole in what is shown
 
@@ -188,15 +188,7 @@ takes_text {names = names} {at = at} {name = name} known_name is d which = recor
   label = text_content name;
   kept = d.moves.by;
   progress = d.progress refl;
-  read = record {
-    at = λ xs known. (let p = d.sound.at xs known in record {
-      count = p.count;
-      cost = p.cost;
-      read = p.read;
-      fits = p.fits;
-      left = p.left;
-    });
-  };
+  read = sound_by d.sound (λ xs n c r. r);
   which = subst (λ zs. StandsAt zs names at) is which;
 }
 

@@ -14,6 +14,7 @@ use Rattle.cbor4ii.specs.declared.serde.de.error.DecodeError.{DecodeError}
 use Rattle.cbor4ii.specs.Built.{built_pairs, built_map}
 use Rattle.cbor4ii.specs.Sequence.{sequence_of}
 use Rattle.cbor4ii.specs.Typed.{answer_of, parts_answer}
+use Rattle.cbor4ii.proofs.Forms.{sound_by}
 
 pub vector_of : {P E : Type 0} {exact : Bool} (step name : List ℕ) (major : ℕ) (s : Format P)
     {a b : View} (r : Result (Vec P Global) (DecodeError E))
@@ -28,15 +29,9 @@ module _ {K V M E : Type 0} (entries : M → List (K × V)) (cmp : K → K → O
     (s : Format (List (K × V))) {exact : Bool} {a b : View} where
   pub map_ok : {m : M} {ps : List (K × V)} → entries m ≡ built_pairs cmp ps
       → DecodesIf {E = E} exact s a b (Ok ps) → Decodes {E = E} (built_map entries cmp s) a b (Ok m)
-  map_ok {ps = ps} is d = ok (built_map entries cmp s) d.moves.by d.progress (record {
-    at = λ xs known. let p = d.sound.at xs known in record {
-      count = p.count;
-      cost = p.cost;
-      read = (ps, p.read, is);
-      fits = p.fits;
-      left = p.left;
-    };
-  })
+  map_ok {ps = ps} is d =
+      ok (built_map entries cmp s) d.moves.by d.progress
+      (sound_by d.sound (λ xs n c r. (ps, r, is)))
 
   pub map_err : {e : CoreError E} → DecodesIf exact s a b (Err e)
       → DecodesIf exact (built_map entries cmp s) a b (Err e)

@@ -12,42 +12,26 @@ use Rattle.cbor4ii_items.specs.Next.{RejectsNext}
 use Rattle.cbor4ii_items.specs.Decoding.{Reads, Sound, NoneRead, Complete, Rejects}
 use Rattle.cbor4ii_items.specs.Budget.{CostFits}
 use Rattle.cbor4ii_items.specs.Containers.{BeginsNull}
-use Rattle.cbor4ii_items.specs.Laws.Answering.{fits_zero, complete_as}
+use Rattle.cbor4ii_items.specs.Laws.Answering.{complete_as}
 use Rattle.cbor4ii_items.specs.Laws.UnderStep.{no_step}
 use Rattle.cbor4ii_items.specs.Laws.Containers.{not_null}
 use Rattle.cbor4ii.specs.Accessing.{Closes}
 use Rattle.cbor4ii.specs.Optional.{ReadsPresence, RejectsPresence, ReadsComing, ReadsComingValue}
 use Rattle.cbor4ii.specs.Optional.{steps_of_some}
 use Rattle.cbor4ii.proofs.Steps.{over_none}
-use Rattle.cbor4ii.proofs.Looking.{Saw, begins_null}
-use Rattle.cbor4ii.proofs.Stopped.{stopped_as}
+use Rattle.cbor4ii.proofs.Looking.{Saw, taken_sound, seen_sound, begins_null}
+use Rattle.cbor4ii.proofs.Stopped.{stopped_as, sound_after}
+use Rattle.cbor4ii.proofs.Forms.{sound_by}
 
 -- ---- whether it comes
 
 pub null_coming : {a m c : View} {b : ℕ} → Saw a m b → (b ≡ 0xf6) ⊎ (b ≡ 0xf7) → Advances 1 m c
     → Sound ReadsComing a c false
-null_coming {a = a} {b = b} s is adv = record {
-  at = λ xs known. (let f = s.first xs known in
-      record {
-        count = 1;
-        cost = 0;
-        read = (begins_null xs b f.1 is, refl, refl);
-        fits = fits_zero a.budget;
-        left = adv.known xs f.0;
-      });
-}
+null_coming {b = b} s is adv = taken_sound s adv (λ xs e. (begins_null xs b e is, refl, refl))
 
 pub value_coming : {a m : View} {b : ℕ} → Saw a m b → b ≢ 0xf6 → b ≢ 0xf7
     → Sound ReadsComing a m true
-value_coming {a = a} {b = b} s p q = record {
-  at = λ xs known. (let f = s.first xs known in record {
-    count = 0;
-    cost = 0;
-    read = (not_null xs b f.1 p q, f.2, refl, refl);
-    fits = fits_zero a.budget;
-    left = f.0;
-  });
-}
+value_coming {b = b} s p q = seen_sound s (λ xs e some. (not_null xs b e p q, some, refl, refl))
 
 -- where a value comes, none does not
 pub no_null : true ≡ false → ⊥
@@ -134,13 +118,4 @@ unmoved {a = a} {b = b} none z =
 -- the step is given back, and what was taken stays taken
 pub value_sound : {V : Type 0} (reads : Reads V) {some : Bool} {a b d : View} {v : V} → some ≡ true
     → KeepsAllButBudget b d → Sound reads a b v → Sound (ReadsComingValue some reads) a d (Some v)
-value_sound reads is k s =
-    rw is (record {
-      at = λ xs known. (let p = s.at xs known in record {
-        count = p.count;
-        cost = p.cost;
-        read = p.read;
-        fits = p.fits;
-        left = k.known ∙ p.left;
-      });
-    })
+value_sound reads is k s = rw is (sound_by (sound_after reads k s) (λ xs n c r. r))

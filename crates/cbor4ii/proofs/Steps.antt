@@ -4,11 +4,14 @@ use Rattle.std.proofs.Common.{Result, Ok, Err, refl, sym, ap, ◌∙◌, subst, 
 use Rattle.cbor4ii_rw.specs.View.{View}
 use Rattle.cbor4ii_rw.specs.Reader.{ReaderFails, Failed, StepsIn, KeepsAllButBudget, step_back}
 use Rattle.cbor4ii_rw.specs.declared.error.DecodeError.{DecodeError}
+use Rattle.cbor4ii.specs.declared.serde.de.accessor.Left.{Left}
+use Rattle.cbor4ii.specs.Accessing.{OpensParts, left_after}
 use Rattle.cbor4ii.specs.Stepped.{Stepped, RejectsStepped, stepped_format}
 use Rattle.cbor4ii_items.specs.InputError.{InputError, input_error_of}
 use Rattle.cbor4ii_items.specs.Decoding.{Sound, Complete, Rejects, Format, Decodes}
 use Rattle.cbor4ii_items.specs.Budget.{CostFits}
 use Rattle.cbor4ii_items.specs.Decoding.{DecodesIf}
+use Rattle.cbor4ii_items.specs.Lengths.{length_format}
 use Rattle.cbor4ii_items.specs.Moves.{Moves}
 use Rattle.cbor4ii_items.specs.Laws.Answering.{if_some}
 use Rattle.cbor4ii_items.specs.Laws.UnderStep.{step_again, fits_step, fits_inside, stepped_at}
@@ -154,3 +157,19 @@ module _ {V E : Type 0} (s : Format V) where
       → d.budget ≡ step_back c.budget → Decodes s b c r → Decodes (stepped_format name s) a d r
   under name takes inward outward r gives t =
       decodes_exactly (under_if name takes inward outward r gives (of_exact t))
+
+-- the head of an array or a map, after a step that was taken
+pub parts_opened : {E : Type 0} (name : List ℕ) (major : ℕ) {a b c : View} {count : Option ℕ}
+    {left : Left} → StepsIn a.budget b.budget true → KeepsAllButBudget a b
+    → Decodes {E = E} (length_format name major) b c (Ok count) → left ≡ left_after count
+    → OpensParts major a c left
+parts_opened name major {b = b} {count = count} takes inward d begun = record {
+  within = b;
+  step = takes;
+  others = inward;
+  kept = d.moves.by;
+  progress = omega (arith, d.progress refl, inward.bound);
+  length = count;
+  head = d.sound;
+  begun = begun;
+}

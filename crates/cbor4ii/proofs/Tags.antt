@@ -8,17 +8,17 @@ use Rattle.cbor4ii_rw.specs.declared.error.DecodeError.TheVariants.{Custom}
 use Rattle.cbor4ii_items.specs.Decoding.{Decodes, DecodesIf}
 use Rattle.cbor4ii_items.specs.Numbers.{ReadsArgument, argument_format}
 use Rattle.cbor4ii_items.specs.Sequences.{pair_format}
-use Rattle.cbor4ii_items.specs.Laws.Calls.{ok, err, err_after, of_exact, decodes_exactly}
+use Rattle.cbor4ii_items.specs.Laws.Calls.{ok, err, of_exact, decodes_exactly}
 use Rattle.cbor4ii_items.specs.Laws.Calls.{exactly_ok}
 use Rattle.cbor4ii_items.specs.Laws.Calls.{by_ok, by_err_if}
 use Rattle.cbor4ii_items.specs.Laws.Heads.{head_one}
 use Rattle.cbor4ii_items.specs.Laws.Pairs.{pair_ok, key_err, value_err}
-use Rattle.cbor4ii_items.specs.Laws.Running.{kept_alike}
 use Rattle.cbor4ii.specs.Tagged.{RejectsTagHead, tag_head, tag_head_lawful, after_tag}
 use Rattle.cbor4ii.specs.Tagged.{tagged_format}
 use Rattle.cbor4ii.specs.Typed.{Promise, Deserializes, in_words, no_number}
 use Rattle.cbor4ii.specs.TypedParts.{part_of}
 use Rattle.cbor4ii.proofs.Promised.{tell}
+use Rattle.cbor4ii.proofs.Forms.{sound_by, err_here}
 
 -- ---- the head
 
@@ -26,15 +26,8 @@ pub tag_found : {E : Type 0} {number found : ℕ} {a m : View} → found ≡ num
     → Decodes {E = E} (argument_format (codes "tag") 6 8) a m (Ok found)
     → Decodes {E = E} (tag_head number) a m (Ok tt)
 tag_found {number = number} same d =
-    ok (tag_head number) d.moves.by d.progress (record {
-      at = λ xs known. (let p = d.sound.at xs known in record {
-        count = p.count;
-        cost = p.cost;
-        read = subst (λ k. ReadsArgument 6 8 xs k p.count p.cost) same p.read;
-        fits = p.fits;
-        left = p.left;
-      });
-    })
+    ok (tag_head number) d.moves.by d.progress
+    (sound_by d.sound (λ xs n c r. subst (λ k. ReadsArgument 6 8 xs k n c) same r))
 
 pub tag_other : {E : Type 0} {number found : ℕ} {words : Bor (List ℕ)} {a m : View}
     → words.now ≡ codes "expected another tag" → (found ≡ number → ⊥)
@@ -67,16 +60,11 @@ pub tag_missing : {E : Type 0} {number : ℕ} {a m : View} {e : DecodeError E}
     → Decodes (argument_format (codes "tag") 6 8) a m (Err e)
     → Decodes (tag_head number) a m (Err e)
 tag_missing {number = number} {a = a} d =
-    decodes_exactly (err_after (argument_format (codes "tag") 6 8) (tag_head number) (kept_alike a)
-    (λ xs known. (
-      xs,
-      known,
-      record {
-        none = λ is none v n c r fits. none number n c r fits;
-        rejects = λ z ys h. inl h;
-        begins = λ z ys h. inl h;
-      },
-    )) (λ owned. owned) (λ takes. takes) (of_exact d))
+    decodes_exactly (err_here (argument_format (codes "tag") 6 8) (tag_head number) (λ xs. record {
+      none = λ is none v n c r fits. none number n c r fits;
+      rejects = λ z ys h. inl h;
+      begins = λ z ys h. inl h;
+    }) (λ owned. owned) (λ takes. takes) (of_exact d))
 
 -- ---- the value
 

@@ -8,8 +8,7 @@ use Rattle.cbor4ii_rw.specs.declared.error.Len.TheVariants.{Small, Big, Indefini
 use Rattle.cbor4ii_rw.specs.declared.error.DecodeError.TheVariants.{RequireLength}
 use Rattle.cbor4ii_rw.specs.View.{View}
 use Rattle.cbor4ii_rw.specs.declared.error.DecodeError.{DecodeError}
-use Rattle.cbor4ii_items.specs.Laws.Calls.{ok, err, err_after, Leads, of_exact, decodes_exactly}
-use Rattle.cbor4ii_items.specs.Laws.Running.{kept_alike}
+use Rattle.cbor4ii_items.specs.Laws.Calls.{ok, err, Leads, of_exact, decodes_exactly}
 use Rattle.cbor4ii.specs.Sequence.{four_small}
 use Rattle.cbor4ii.specs.Tuples.{ReadsAfter, ReadsCountOf, RejectsCountOf, container_head_format}
 use Rattle.cbor4ii.specs.Tuples.{known_length}
@@ -23,20 +22,14 @@ use Rattle.cbor4ii_items.specs.Laws.Strings.{head_not_indefinite}
 use Rattle.cbor4ii_items.specs.Lengths.{ReadsLength, length_format}
 use Rattle.cbor4ii_items.specs.Decoding.{RejectsAt, Sound, NoneRead, Format, Decodes, DecodesIf}
 use Rattle.cbor4ii_items.specs.Laws.Answering.{fits_zero}
+use Rattle.cbor4ii.proofs.Forms.{sound_by, err_here}
 
 pub head_counts : {E : Type 0} {count found : ℕ} {l : Option ℕ} {a m : View} → l ≡ Some found
     → found ≡ count → Decodes {E = E} (length_format (codes "array") 4) a m (Ok l)
     → Decodes {E = E} (container_head_format count) a m (Ok tt)
 head_counts {count = count} {a = a} is same d =
-    ok (container_head_format count) d.moves.by d.progress (record {
-      at = λ xs known. (let p = d.sound.at xs known in record {
-        count = p.count;
-        cost = p.cost;
-        read = subst (λ k. ReadsLength 4 xs k p.count p.cost) (is ∙ ap Some same) p.read;
-        fits = p.fits;
-        left = p.left;
-      });
-    })
+    ok (container_head_format count) d.moves.by d.progress (sound_by d.sound (λ xs n c r.
+    subst (λ k. ReadsLength 4 xs k n c) (is ∙ ap Some same) r))
 
 other : (count : ℕ) (l : Option ℕ) (xs : List ℕ) (n c : ℕ) (budget : Option ℕ)
     → (l ≡ Some count → ⊥) → ReadsLength 4 xs l n c → NoneRead (ReadsCountOf count) xs budget
@@ -49,17 +42,12 @@ pub head_missing : {E : Type 0} {count : ℕ} {a m : View} {e : DecodeError E}
     → Decodes (length_format (codes "array") 4) a m (Err e)
     → Decodes (container_head_format count) a m (Err e)
 head_missing {count = count} {a = a} d =
-    decodes_exactly (err_after (length_format (codes "array") 4) (container_head_format count)
-    (kept_alike a)
-    (λ xs known. (
-      xs,
-      known,
-      record {
-        none = λ is none v n c r fits. none (Some count) n c r fits;
-        rejects = λ z ys h. inl h;
-        begins = λ z ys h. inl h;
-      },
-    )) (λ owned. owned) (λ takes. takes) (of_exact d))
+    decodes_exactly (err_here (length_format (codes "array") 4) (container_head_format count)
+    (λ xs. record {
+      none = λ is none v n c r fits. none (Some count) n c r fits;
+      rejects = λ z ys h. inl h;
+      begins = λ z ys h. inl h;
+    }) (λ owned. owned) (λ takes. takes) (of_exact d))
 
 len_by : (t : Bool) (n : ℕ) (l : Len) → ltb n 65536 ≡ t → (n < 65536 → l ≡ Small n)
     → (65536 ≤ n → l ≡ Big) → l ≡ len_of n
@@ -103,10 +91,7 @@ head_differs {count = count} {l = l} {len = len} {name = name} {a = a} named not
 
 pub count_length : {count : ℕ} {a m : View} → Sound (ReadsCountOf count) a m tt
     → Sound (ReadsLength 4) a m (Some count)
-count_length s = record {
-  at = λ xs known. (let p = s.at xs known in
-      record { count = p.count; cost = p.cost; read = p.read; fits = p.fits; left = p.left });
-}
+count_length s = sound_by s (λ xs n c r. r)
 
 pub not_count : {found count : ℕ} {l : Option ℕ} → l ≡ Some found → (found ≡ count → ⊥)
     → l ≡ Some count → ⊥
@@ -130,15 +115,11 @@ module _ {V : Type 0} (count : ℕ) (s : Format V) where
       → DecodesIf exact (container_head_format count) a m (Err e)
       → DecodesIf exact (after_format count s) a m (Err e)
   head_err {a = a} d =
-      err_after (container_head_format count) (after_format count s) (kept_alike a) (λ xs known. (
-        xs,
-        known,
-        record {
-          none = λ is. no_head xs a.budget;
-          rejects = λ z ys. inl;
-          begins = λ z ys. inl;
-        },
-      )) (λ owned. refl) (λ takes. (let no : false ≡ _ = takes in cc)) d
+      err_here (container_head_format count) (after_format count s) (λ xs. record {
+        none = λ is. no_head xs a.budget;
+        rejects = λ z ys. inl;
+        begins = λ z ys. inl;
+      }) (λ owned. refl) (λ takes. (let no : false ≡ _ = takes in cc)) d
 
   pub head_after : {E : Type 0} {exact : Bool} {a m : View}
       → Decodes {E = E} (container_head_format count) a m (Ok tt)

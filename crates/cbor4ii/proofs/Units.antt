@@ -9,28 +9,15 @@ use Rattle.cbor4ii_rw.specs.declared.error.DecodeError.TheVariants.{Mismatch}
 use Rattle.cbor4ii_items.specs.InputError.{InputError, input_error_of, mismatch}
 use Rattle.cbor4ii_items.specs.Next.{ReadsNext, RejectsNext}
 use Rattle.cbor4ii_items.specs.Decoding.{NoneRead, Sound, Complete, Rejects}
-use Rattle.cbor4ii_items.specs.Laws.Answering.{fits_zero, complete_as}
+use Rattle.cbor4ii_items.specs.Laws.Answering.{complete_as}
 use Rattle.cbor4ii_items.specs.Laws.Answering.{whatever_error}
 use Rattle.cbor4ii.specs.Tuples.{ReadsUnit, RejectsUnit}
-use Rattle.cbor4ii.proofs.Looking.{Saw, none_begins}
+use Rattle.cbor4ii.proofs.Looking.{Saw, taken_sound, none_begins}
 use Rattle.cbor4ii.proofs.Stopped.{stopped_as}
 
 pub unit_sound : {a m c : View} {b : ℕ} → Saw a m b → b ≡ 0x80 → Advances 1 m c
     → Sound ReadsUnit a c tt
-unit_sound {a = a} s is adv = record {
-  at = λ xs known. (let f = s.first xs known in record {
-    count = 1;
-    cost = 0;
-    read = (
-      f.1
-          ∙ ap (λ z. z ∷ []) is,
-      refl,
-      refl,
-    );
-    fits = fits_zero a.budget;
-    left = adv.known xs f.0;
-  });
-}
+unit_sound s is adv = taken_sound s adv (λ xs e. (e ∙ ap (λ z. z ∷ []) is, refl, refl))
 
 pub unit_other : {E : Type 0} {a m : View} {b : ℕ} {e : DecodeError E} → Saw a m b → b ≢ 0x80
     → Complete ReadsUnit a e

@@ -11,23 +11,18 @@ use Rattle.cbor4ii_items.specs.Laws.Prefixes.{drop_more}
 use Rattle.cbor4ii_items.specs.Laws.Pairs.{pair_sound}
 use Rattle.cbor4ii_items.specs.Laws.UnderStep.{fits_step}
 use Rattle.cbor4ii.specs.Variants.{IsForm, OpensEnum, ReadsContent, ReadsVariant}
+use Rattle.cbor4ii.proofs.Forms.{sound_by}
 
 -- the name, as a text
 named : {N : Type 0} (text : N → List ℕ) {a b : View} {name : N} → Sound (ReadsTextAs text) a b name
     → Sound ReadsText a b (text name)
-named text s = record {
-  at = λ xs known. let p = s.at xs known in
-      record { count = p.count; cost = p.cost; read = p.read; fits = p.fits; left = p.left };
-}
+named text s = sound_by s (λ xs n c r. r)
 
 -- the content, where there is one
 inside : {V : Type 0} (reads : Reads V) {has : Bool} {a b : View} {v : V} → has ≡ true
     → Sound (ReadsContent has reads) a b v → Sound reads a b v
-inside reads {a = a} {b = b} {v = v} is s = record {
-  at = λ xs known.
-      let p = (subst (λ has. Sound (ReadsContent has reads) a b v) is s).at xs known in
-      record { count = p.count; cost = p.cost; read = p.read; fits = p.fits; left = p.left };
-}
+inside reads {a = a} {b = b} {v = v} is s =
+    sound_by (subst (λ has. Sound (ReadsContent has reads) a b v) is s) (λ xs n c r. r)
 
 module _ {V N : Type 0} (units : List ℕ → V → Type 0) (contents : List ℕ → Reads V)
     (text : N → List ℕ) where

@@ -22,7 +22,7 @@ use Rattle.cbor4ii_items.specs.Strings.{ReadsAs, ReadsTextAs, definite_string, t
 use Rattle.cbor4ii_items.specs.Strings.{bytes_content}
 use Rattle.cbor4ii_items.specs.Laws.LeavesBack.{text_back, string_back}
 use Rattle.cbor4ii_items.specs.declared.types.Bytes.{Bytes}
-use Rattle.cbor4ii_ser.specs.Item.{Encoding, encoded, rejected, option_encoding, array_encoding}
+use Rattle.cbor4ii_ser.specs.Item.{Encoding, encoded, option_encoding, array_encoding}
 use Rattle.cbor4ii_ser.specs.Item.{map_encoding}
 use Rattle.cbor4ii_ser.specs.Item.{tuple_encoding, pair_encoding}
 use Rattle.cbor4ii_ser.specs.OneItem.{IsOneItem, canonical}
@@ -30,6 +30,7 @@ use Rattle.cbor4ii_ser.specs.Laws.OneItem.{unsigned_is_item, signed_is_item, wit
 use Rattle.cbor4ii_ser.specs.Laws.OneItem.{option_is_item, array_is_item, map_is_item}
 use Rattle.cbor4ii_ser.specs.Laws.OneItem.{tuple_is_item, by_recursion, bytes_are_item}
 use Rattle.cbor4ii.specs.Laws.Backs.{some_read_back, sequence_read_back, pair_read_back}
+use Rattle.cbor4ii.specs.Laws.Backs.{read_back_by}
 use Rattle.cbor4ii.specs.Laws.Backs.{triple_read_back, map_pairs_back, built_again, map_read_back}
 use Rattle.cbor4ii.specs.Made.{ReadsMade, made_from}
 use Rattle.cbor4ii.specs.ReadBack.{IsReadBack, BeginsOther}
@@ -345,9 +346,9 @@ pub made_back : {V W : Type 0} (reads : Reads V) (gives : V → W → Type 0) (e
     (v : V)
     (w : W) (cost : ℕ) → gives v w → IsReadBack reads encoding v cost
     → IsReadBack (ReadsMade reads gives) encoding w cost
-made_back reads gives (rejected bytes words) v w cost made back = tt
-made_back reads gives (encoded bytes) v w cost made back =
-    λ rest. record { part = v; read = back rest; made = made }
+made_back reads gives encoding v w cost made =
+    read_back_by reads (ReadsMade reads gives) v w
+    (λ xs n c r. record { part = v; read = r; made = made }) encoding cost
 
 -- a newtype and its like: `of` is the value that it holds
 abbrev pub codec_of : {V W : Type 0} (of : W → V) (make : V → W) → ((w : W) → w ≡ make (of w))

@@ -2,7 +2,7 @@
 use Rattle.std.proofs.Common.{◌≡◌, ◌≢◌, ◌+◌, ◌*◌, ◌++◌, ℕ, suc, List, [], ◌∷◌, length, max, Bool}
 use Rattle.std.proofs.Common.{true, false, IsTrue, ◌⊎◌, inl, inr, refl, sym, ap, subst, ltb, arith}
 use Rattle.std.proofs.Common.{ltb-true}
-use Rattle.std.specs.Prelude.{◌&&◌, not, bytes_eq}
+use Rattle.std.specs.Prelude.{not, bytes_eq}
 use Rattle.std.specs.declared.alloc.Global.{Global}
 use Rattle.std.proofs.lemmas.List.{append-nil}
 use Rattle.cbor4ii_items.specs.Head.{additional, shortest_width}

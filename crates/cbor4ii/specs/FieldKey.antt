@@ -1,5 +1,5 @@
 -- Keys of a struct's fields: how they are read and written, and what tells them apart.
-use Rattle.std.proofs.Common.{◌≡◌, ◌≤◌, ◌<◌, ◌^◌, ℕ, zero, suc, List, [], ◌∷◌, length, Bool, true}
+use Rattle.std.proofs.Common.{◌≡◌, ◌<◌, ◌^◌, ℕ, zero, suc, List, [], ◌∷◌, length, Bool, true}
 use Rattle.std.proofs.Common.{IsTrue}
 use Rattle.std.proofs.Common.{ltb, ltb-true, arith}
 use Rattle.std.specs.Prelude.{◌&&◌, IsUtf8, codes}

@@ -1,5 +1,5 @@
 -- Keys that are integers, among others that are texts.
-use Rattle.std.proofs.Common.{◌≡◌, ◌/◌, ◌+◌, ◌<◌, ◌^◌, ◌++◌, ℕ, ℤ, pos, negsuc, zero, suc, List}
+use Rattle.std.proofs.Common.{◌≡◌, ◌/◌, ◌+◌, ◌^◌, ◌++◌, ℕ, ℤ, pos, negsuc, zero, suc, List}
 use Rattle.std.proofs.Common.{[], ◌∷◌}
 use Rattle.std.proofs.Common.{Option, None, Some, Bool, true, false, ◌≤◌, length, IsTrue, refl, sym}
 use Rattle.std.proofs.Common.{ap, ◌∙◌, subst, drop, inl, ltb, ltb-true, arith}

@@ -10,7 +10,6 @@ use Rattle.cbor4ii_items.specs.Head.{IsBytes, Width, HeadFits, head, byte_count}
 use Rattle.cbor4ii_items.specs.InputError.{is_out_of_memory}
 use Rattle.cbor4ii_items.specs.Lent.{Stays}
 use Rattle.cbor4ii_items.specs.Moves.{Kept}
-use Rattle.cbor4ii_items.specs.Strings.{ReadsText}
 use Rattle.cbor4ii.specs.FieldKey.{FieldKey, key_format, text_key}
 use Rattle.cbor4ii.specs.declared.serde.de.names.Seen.{Seen}
 use Rattle.cbor4ii.specs.declared.serde.de.names.Seen.TheVariants.{Whole, Cut, Other}

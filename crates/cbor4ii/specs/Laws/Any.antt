@@ -1,19 +1,21 @@
 -- One input is read as one value, however deep items nest.
 use Rattle.std.proofs.Common.{◌≡◌, ℕ, zero, suc, ◌+◌, ◌≤◌, inl, inr, List, [], ◌∷◌, take, drop}
 use Rattle.std.proofs.Common.{true, refl, sym, ap, ap₂, ◌∙◌, subst, arith, rules}
+use Rattle.std.specs.Prelude.{codes}
 use Rattle.std.specs.declared.alloc.Global.{Global}
 use Rattle.std.specs.declared.vec.Vec.{Vec}
 use Rattle.cbor4ii_items.specs.Decoding.{Reads}
-use Rattle.cbor4ii_items.specs.Floats.{float_one, float_within, float_positive}
+use Rattle.cbor4ii_items.specs.declared.types.F16.{F16 as Half}
+use Rattle.cbor4ii_items.specs.declared.types.F32.{F32 as Single}
+use Rattle.cbor4ii_items.specs.declared.types.F64.{F64 as Double}
+use Rattle.cbor4ii_items.specs.Floats.{ReadsFloat, float_format, float_lawful}
+use Rattle.cbor4ii_items.specs.Laws.Formats.{lawful_by}
 use Rattle.cbor4ii_items.specs.Laws.Bignums.{u128_one, u128_within, u128_positive, i128_one}
 use Rattle.cbor4ii_items.specs.Laws.Bignums.{i128_within, i128_positive}
 use Rattle.cbor4ii_items.specs.Sequences.{ReadsElements, Unbroken, ReadsInside, ReadsSequence}
 use Rattle.cbor4ii_items.specs.Sequences.{ReadsPair, SamePair, SameElements}
-use Rattle.cbor4ii_items.specs.Laws.Sequences.{sequence_one, sequence_within, sequence_positive}
-use Rattle.cbor4ii_items.specs.Simple.{simple_lawful, bool_one}
-use Rattle.cbor4ii_items.specs.Simple.{bool_within, bool_positive}
-use Rattle.cbor4ii_items.specs.Laws.Strings.{two_small, as_one, as_within, as_positive, text_one}
-use Rattle.cbor4ii_items.specs.Laws.Strings.{text_within, text_positive}
+use Rattle.cbor4ii_items.specs.Simple.{simple_lawful, bool_lawful}
+use Rattle.cbor4ii_items.specs.Laws.Strings.{two_small, as_lawful, text_lawful}
 use Rattle.cbor4ii_items.specs.Strings.{bytes_content, text_content}
 use Rattle.cbor4ii_tree.specs.Basis.Item.{item, bytes_item, text, sequence, mapping}
 use Rattle.cbor4ii_tree.specs.Basis.View.{view, items_view, pairs_view}
@@ -27,11 +29,12 @@ use Rattle.cbor4ii.specs.declared.serde.de.any_leaf.AnyLeaf.TheVariants.{F16, F3
 use Rattle.cbor4ii.specs.Any.{kind, Formed, of_integer, of_bignum, of_bytes, of_text, of_bool}
 use Rattle.cbor4ii.specs.Any.{of_null, of_f16, of_f32, of_f64, of_array, of_map, LeafAs}
 use Rattle.cbor4ii.specs.Any.{ReadsValues, ReadsPairs, KindAs, AnyInside, AnyAt, ReadsAny, SameView}
-use Rattle.cbor4ii.specs.CodecAgrees.{AlsoReads}
-use Rattle.cbor4ii.specs.Sequence.{four_small, five_small}
+use Rattle.cbor4ii.specs.CodecAgrees.{AlsoReads, elements_also, unbroken_also, sequence_also}
+use Rattle.cbor4ii.specs.CodecAgrees.{pair_also}
+use Rattle.cbor4ii.specs.Sequence.{four_small, five_small, sequence_of_lawful}
 use Rattle.cbor4ii.specs.Stepped.{Stepped, stepped_laws}
 use Rattle.cbor4ii.specs.Tuples.{pair_laws}
-use Rattle.cbor4ii.specs.Typed.{IsLawfulReading, not_exact}
+use Rattle.cbor4ii.specs.Typed.{IsLawfulReading, reading_format, laws_of, not_exact}
 
 -- ---- equal contents, equal values
 
@@ -93,6 +96,11 @@ formed_by : {W : Type 0} {reads : Reads W} (form : W → Value) → IsLawfulRead
     → IsLawfulReading (Formed reads form) SameView true
 formed_by form h = formed_laws form (λ v w e. ap (λ z. view (form z)) e) h
 
+float_laws : {V : Type 0} (bits : V → ℕ) (marker count : ℕ)
+    → IsLawfulReading (λ xs v. ReadsFloat marker count xs (bits v)) (λ v w. bits v ≡ bits w) true
+float_laws bits marker count =
+    laws_of (lawful_by bits (float_format [] marker count) (float_lawful [] marker count))
+
 leaf_laws : (leaf : AnyLeaf) → IsLawfulReading (LeafAs leaf) SameView true
 leaf_laws Integer =
     formed_by of_integer
@@ -110,64 +118,21 @@ leaf_laws Bignum =
       alone = not_exact;
     })
 leaf_laws Bytes =
-    formed_laws of_bytes view_bytes
-    (record {
-      one = as_one 2 two_small bytes_content;
-      within = as_within 2 two_small
-          bytes_content;
-      positive = λ _. as_positive 2 two_small bytes_content;
-      alone = not_exact;
-    })
-leaf_laws Text =
-    formed_laws of_text view_text (record {
-      one = text_one text_content;
-      within = text_within text_content;
-      positive = λ _. text_positive text_content;
-      alone = not_exact;
-    })
-leaf_laws Flag =
-    formed_by of_bool
-    (record {
-      one = bool_one;
-      within = bool_within;
-      positive = λ _. bool_positive;
-      alone = not_exact;
-    })
+    formed_laws of_bytes view_bytes (laws_of (as_lawful (codes "bytes") 2 two_small bytes_content))
+leaf_laws Text = formed_laws of_text view_text (laws_of (text_lawful (codes "str") text_content))
+leaf_laws Flag = formed_by of_bool (laws_of bool_lawful)
 leaf_laws Null =
     formed_laws of_null (λ v w e. ap (λ k. view (of_null (record { 0 = k }))) e)
-    (record {
-      one = simple_lawful.one;
-      within = simple_lawful.within;
-      positive = simple_lawful.positive;
-      alone = not_exact;
-    })
+    (laws_of simple_lawful)
 leaf_laws F16 =
     formed_laws of_f16 (λ v w e. ap (λ k. view (of_f16 (record { 0 = k }))) e)
-    (record {
-      one = λ xs v w. float_one 0xf9 2 xs v.0 w.0;
-      within = λ xs v.
-          float_within 0xf9 2 xs v.0;
-      positive = λ _ xs v. float_positive 0xf9 2 xs v.0;
-      alone = not_exact;
-    })
+    (float_laws (λ (f : Half). f.0) 0xf9 2)
 leaf_laws F32 =
     formed_laws of_f32 (λ v w e. ap (λ k. view (of_f32 (record { 0 = k }))) e)
-    (record {
-      one = λ xs v w. float_one 0xfa 4 xs v.0 w.0;
-      within = λ xs v.
-          float_within 0xfa 4 xs v.0;
-      positive = λ _ xs v. float_positive 0xfa 4 xs v.0;
-      alone = not_exact;
-    })
+    (float_laws (λ (f : Single). f.0) 0xfa 4)
 leaf_laws F64 =
     formed_laws of_f64 (λ v w e. ap (λ k. view (of_f64 (record { 0 = k }))) e)
-    (record {
-      one = λ xs v w. float_one 0xfb 8 xs v.0 w.0;
-      within = λ xs v.
-          float_within 0xfb 8 xs v.0;
-      positive = λ _ xs v. float_positive 0xfb 8 xs v.0;
-      alone = not_exact;
-    })
+    (float_laws (λ (f : Double). f.0) 0xfb 8)
 
 -- ---- items that hold others
 
@@ -176,23 +141,15 @@ module _ {inner : Reads Value} (h : IsLawfulReading inner SameView true) where
   kind_laws (Leaf leaf) = leaf_laws leaf
   kind_laws Array =
       formed_laws {reads = ReadsValues inner} of_array
-      (λ vs ws e. view_array vs ws (items_same vs.items ws.items e)) (record {
-        one = λ xs v w. sequence_one 4 four_small inner true SameView h.one xs v.items w.items;
-        within = λ xs v. sequence_within 4 four_small inner true h.within xs v.items;
-        positive = λ _ xs v. sequence_positive 4 four_small inner true xs v.items;
-        alone = not_exact;
-      })
+      (λ vs ws e. view_array vs ws (items_same vs.items ws.items e))
+      (laws_of (sequence_of_lawful (λ (vs : Vec Value Global). vs.items) [] [] 4 four_small
+      (reading_format inner SameView true) h))
   kind_laws Map =
-      let pair = pair_laws inner inner SameView SameView true true h h in
       formed_laws {reads = ReadsPairs inner} of_map
-      (λ ps qs e. view_map ps qs (pairs_same ps.items qs.items e)) (record {
-        one = λ xs v w. sequence_one 5 five_small (ReadsPair inner inner) true
-            (SamePair SameView SameView) pair.one xs v.items w.items;
-        within = λ xs v.
-            sequence_within 5 five_small (ReadsPair inner inner) true pair.within xs v.items;
-        positive = λ _ xs v. sequence_positive 5 five_small (ReadsPair inner inner) true xs v.items;
-        alone = not_exact;
-      })
+      (λ ps qs e. view_map ps qs (pairs_same ps.items qs.items e))
+      (laws_of (sequence_of_lawful (λ (ps : Vec (Value × Value) Global). ps.items) [] [] 5
+      five_small (reading_format (ReadsPair inner inner) (SamePair SameView SameView) true)
+      (pair_laws inner inner SameView SameView true true h h)))
   kind_laws Other = record {
     one = λ xs v w n m c d p q. absurd p;
     within = λ xs v n c p. absurd p;
@@ -226,71 +183,12 @@ at_laws (suc k) = stepped_laws (inside_laws (at_laws k))
 
 -- ---- more is read where more of the parts is
 
-parts_more : {P : Type 0} {f g : Reads P} → AlsoReads f g → AlsoReads (ReadsElements f)
-    (ReadsElements g)
-parts_more more xs [] n c h = h
-parts_more more xs (p ∷ ps) n c h = (
-  h.0,
-  h.1,
-  h.2,
-  h.3,
-  more xs p h.0 h.1 h.4,
-  parts_more more (drop h.0 xs) ps h.2 h.3 h.5,
-  h.6,
-  h.7,
-)
-
-unbroken_more : {P : Type 0} {f g : Reads P} → AlsoReads f g → AlsoReads (Unbroken f) (Unbroken g)
-unbroken_more more xs p n c h = (h.0, more xs p n c h.1)
-
-inside_more : {P : Type 0} {f g : Reads P} (major : ℕ) → AlsoReads f g
-    → AlsoReads (ReadsInside major f true) (ReadsInside major g true)
-inside_more major more xs ps n c (inl h) =
-    inl (record {
-      before = h.before;
-      head = h.head;
-      between = h.between;
-      parts = parts_more more (drop h.before xs) ps h.between c h.parts;
-      size = h.size;
-    })
-inside_more major more xs ps n c (inr h) =
-    let u = h.parts in
-    inr (record {
-      begins = h.begins;
-      between = h.between;
-      parts =
-          record {
-            allowed = u.allowed;
-            between = u.between;
-            parts = parts_more (unbroken_more more)
-                (drop 1 xs) ps u.between c u.parts;
-            ends = u.ends;
-            size = u.size;
-          };
-      size = h.size;
-    })
-
-sequence_more : {P : Type 0} {f g : Reads P} (major : ℕ) → AlsoReads f g
-    → AlsoReads (ReadsSequence major f true) (ReadsSequence major g true)
-sequence_more major more xs ps n c h = (h.0, inside_more major more xs ps n h.0 h.1, h.2)
-
-pair_more : {f g : Reads Value} → AlsoReads f g → AlsoReads (ReadsPair f f) (ReadsPair g g)
-pair_more more xs p n c h = record {
-  key_size = h.key_size;
-  key_cost = h.key_cost;
-  key = more xs p.0 h.key_size h.key_cost h.key;
-  value_size = h.value_size;
-  value_cost = h.value_cost;
-  value = more (drop h.key_size xs) p.1 h.value_size h.value_cost h.value;
-  size = h.size;
-  cost = h.cost;
-}
-
 kind_more : {f g : Reads Value} → AlsoReads f g → (k : AnyKind)
     → AlsoReads (KindAs f k) (KindAs g k)
 kind_more more (Leaf leaf) xs v n c h = h
-kind_more more Array xs v n c h = (h.0, sequence_more 4 more xs h.0.items n c h.1, h.2)
-kind_more more Map xs v n c h = (h.0, sequence_more 5 (pair_more more) xs h.0.items n c h.1, h.2)
+kind_more more Array xs v n c h = (h.0, sequence_also more 4 xs h.0.items n c h.1, h.2)
+kind_more more Map xs v n c h =
+    (h.0, sequence_also (pair_also more more) 5 xs h.0.items n c h.1, h.2)
 kind_more more Other xs v n c h = h
 
 any_more : {f g : Reads Value} → AlsoReads f g → AlsoReads (AnyInside f) (AnyInside g)
@@ -334,7 +232,7 @@ module _ {P : Type 0} (reads : Reads P) (to : ℕ → Reads P)
           h.2,
           h.3,
           more s.0 k (omega arith) xs p h.0 h.1 s.1,
-          parts_more (more r.0 k (omega arith)) (drop h.0 xs) ps h.2 h.3 r.1,
+          elements_also (more r.0 k (omega arith)) (drop h.0 xs) ps h.2 h.3 r.1,
           h.6,
           h.7,
         ),
@@ -363,7 +261,7 @@ module _ {P : Type 0} (reads : Reads P) (to : ℕ → Reads P)
   inside_in major xs ps n c (inr h) =
       let u = h.parts in
       let s = parts_in (Unbroken reads) (λ k. Unbroken (to k))
-      (λ k j le. unbroken_more (more k j le)) unbroken_in (drop 1 xs) ps u.between c u.parts in (
+      (λ k j le. unbroken_also (more k j le)) unbroken_in (drop 1 xs) ps u.between c u.parts in (
         s.0,
         inr (record {
           begins = h.begins;
@@ -411,7 +309,7 @@ kind_in Array xs v n c h =
     (s.0, (h.0, s.1, h.2))
 kind_in Map xs v n c h =
     let s = sequence_in (ReadsPair ReadsAny ReadsAny) (λ k. ReadsPair (AnyAt k) (AnyAt k))
-    (λ k j le. pair_more (deeper k j le)) pair_in 5 xs h.0.items n c h.1 in
+    (λ k j le. pair_also (deeper k j le) (deeper k j le)) pair_in 5 xs h.0.items n c h.1 in
     (s.0, (h.0, s.1, h.2))
 kind_in Other xs v n c h = absurd h
 

@@ -20,12 +20,21 @@ use Rattle.cbor4ii_items.specs.Sequences.{ReadsPair}
 use Rattle.cbor4ii_items.specs.Laws.PartsBack.{pair_back, stands_between, head_before}
 use Rattle.cbor4ii_ser.specs.Item.{Encoding, encoded, rejected, one_then, each_encoding}
 use Rattle.cbor4ii_ser.specs.Item.{pair_encoding}
+use Rattle.cbor4ii_ser.specs.Laws.Joining.{followed_nil}
 use Rattle.cbor4ii.specs.Built.{built_pairs, put_all, ReadsBuilt}
 use Rattle.cbor4ii.specs.ReadBack.{IsReadBack, BeginsOther, IsNullItem}
 use Rattle.cbor4ii.specs.Stepped.{Stepped}
 use Rattle.cbor4ii.specs.Tuples.{ReadsAfter, ReadsTriple}
 
--- ---- one after the other
+-- ---- one value as another
+
+-- each reading of the first is one of the second
+pub read_back_by : {V W : Type 0} (first : Reads V) (second : Reads W) (v : V) (w : W)
+    → ((xs : List ℕ) (n c : ℕ) → first xs v n c → second xs w n c) → (item : Encoding) (cost : ℕ)
+    → IsReadBack first item v cost → IsReadBack second item w cost
+read_back_by first second v w also (rejected bytes words) cost back = tt
+read_back_by first second v w also (encoded bytes) cost back =
+    λ rest. also (bytes ++ rest) (length bytes) cost (back rest)
 
 -- ---- values that may be absent
 
@@ -89,18 +98,29 @@ pub two_back : {A B : Type 0} (first : Reads A) (second : Reads B) (xs ys : List
 two_back first second xs ys p c d h k =
     pair_back first second (λ _. xs) (λ _. ys) (λ _. c) (λ _. d) p h k
 
+pub key_value_back : {K V : Type 0} (first : Reads K) (second : Reads V) (a b : Encoding)
+    (p : K × V)
+    (c d : ℕ) → IsReadBack first a p.0 c → IsReadBack second b p.1 d
+    → IsReadBack (ReadsPair first second) (one_then a b) p (max c d)
+unfolding one_then
+key_value_back first second (rejected xs words) b p c d h k = tt
+key_value_back first second (encoded xs) (rejected ys words) p c d h k = tt
+key_value_back first second (encoded xs)
+    (encoded ys) p c d h k = two_back first second xs ys p c d h k
+
+-- the last part
+last_back : {V : Type 0} (reads : Reads V) (o : Encoding) (v : V) (cost : ℕ)
+    → IsReadBack reads o v cost → IsReadBack reads (one_then o (encoded [])) v cost
+last_back reads o v cost = subst (λ z. IsReadBack reads z v cost) (sym (followed_nil o))
+
 pub pair_read_back : {A B : Type 0} (first : Reads A) (second : Reads B) (a b : Encoding)
     (p : A × B) (c d : ℕ) → IsReadBack first a p.0 c → IsReadBack second b p.1 d
     → IsReadBack (Stepped (ReadsAfter 2 (ReadsPair first second)))
     (one_then (encoded (shortest_head 4 2)) (one_then a (one_then b (encoded [])))) p
     (1 + max c d)
-unfolding one_then
-pair_read_back first second (rejected xs words) b p c d h k = tt
-pair_read_back first second (encoded xs) (rejected ys words) p c d h k = tt
-pair_read_back first second (encoded xs) (encoded ys) p c d h k =
-    after_back 2 (ReadsPair first second) (xs ++ (ys ++ [])) p (max c d) (omega arith)
-    (subst (λ zs. ReadsBack (ReadsPair first second) (xs ++ zs) p (max c d)) (sym (append-nil ys))
-    (two_back first second xs ys p c d h k))
+pair_read_back first second a b p c d h k =
+    counted_back 2 (ReadsPair first second) _ p (max c d) (omega arith)
+    (key_value_back first second a _ p c d h (last_back second b p.1 d k))
 
 pub triple_read_back : {A B C : Type 0} (first : Reads A) (second : Reads B) (third : Reads C)
     (a b c : Encoding) (p : A × B × C) (i j k : ℕ) → IsReadBack first a p.0 i
@@ -108,19 +128,12 @@ pub triple_read_back : {A B C : Type 0} (first : Reads A) (second : Reads B) (th
     → IsReadBack (Stepped (ReadsAfter 3 (ReadsTriple first second third)))
     (one_then (encoded (shortest_head 4 3)) (one_then a (one_then b (one_then c (encoded [])))))
     p (1 + max i (max j k))
-unfolding one_then
-triple_read_back first second third (rejected xs words) b c p i j k f g h = tt
-triple_read_back first second third (encoded xs) (rejected ys words) c p i j k f g h = tt
-triple_read_back first second third (encoded xs) (encoded ys) (rejected zs words) p i j k f g h = tt
-triple_read_back first second third (encoded xs) (encoded ys) (encoded zs) p i j k f g h =
-    let inner = two_back second third ys zs (p.1, p.2) j k g h in
-    let whole : ReadsBack (ReadsTriple first second third) (xs ++ (ys ++ zs)) p (max i (max j k)) =
-    two_back first (ReadsPair second third) xs (ys ++ zs)
-    (p.0, (p.1, p.2)) i (max j k) f inner in
-    after_back 3 (ReadsTriple first second third) (xs ++ (ys ++ (zs ++ []))) p (max i (max j k))
-    (omega arith)
-    (subst (λ ws. ReadsBack (ReadsTriple first second third)
-    (xs ++ (ys ++ ws)) p (max i (max j k))) (sym (append-nil zs)) whole)
+triple_read_back first second third a b c p i j k f g h =
+    counted_back 3 (ReadsTriple first second third) _ p (max i (max j k)) (omega arith)
+    (read_back_by (ReadsPair first (ReadsPair second third)) (ReadsTriple first second third)
+    (p.0, (p.1, p.2)) p (λ xs n c r. r) _ _
+    (key_value_back first (ReadsPair second third) a _ (p.0, (p.1, p.2)) i (max j k) f
+    (key_value_back second third b _ (p.1, p.2) j k g (last_back third c p.2 k h))))
 
 -- ---- sequences
 
@@ -190,16 +203,6 @@ module _ {P : Type 0} (reads : Reads P) (item : P → Encoding) (cost : P → �
 
 -- ---- maps
 
-pub key_value_back : {K V : Type 0} (first : Reads K) (second : Reads V) (a b : Encoding)
-    (p : K × V)
-    (c d : ℕ) → IsReadBack first a p.0 c → IsReadBack second b p.1 d
-    → IsReadBack (ReadsPair first second) (one_then a b) p (max c d)
-unfolding one_then
-key_value_back first second (rejected xs words) b p c d h k = tt
-key_value_back first second (encoded xs) (rejected ys words) p c d h k = tt
-key_value_back first second (encoded xs)
-    (encoded ys) p c d h k = two_back first second xs ys p c d h k
-
 pub map_pairs_back : {K V : Type 0} (first : Reads K) (second : Reads V) (key : K → Encoding)
     (value : V → Encoding) (key_cost : K → ℕ) (value_cost : V → ℕ) (ps : List (K × V))
     → All (λ p. IsReadBack first (key p.0) p.0 (key_cost p.0)) ps
@@ -250,5 +253,6 @@ pub map_read_back : {K V M : Type 0} (entries : M → List (K × V)) (cmp : K �
     (reads : Reads (List (K × V))) (o : Encoding) (m : M) (cost : ℕ)
     → built_pairs cmp (entries m) ≡ entries m → IsReadBack reads o (entries m) cost
     → IsReadBack (ReadsBuilt entries cmp reads) o m cost
-map_read_back entries cmp reads (rejected bytes words) m cost e h = tt
-map_read_back entries cmp reads (encoded bytes) m cost e h = λ rest. (entries m, h rest, sym e)
+map_read_back entries cmp reads o m cost e h =
+    read_back_by reads (ReadsBuilt entries cmp reads) (entries m) m
+    (λ xs n c r. (entries m, r, sym e)) o cost h

@@ -4,16 +4,12 @@ use Rattle.cbor4ii.specs.Laws.TypedOnce.{typed_elements_once}
 use Rattle.cbor4ii.specs.Elements.{typed_elements}
 use Rattle.cbor4ii.proofs.serde.laws.elements_are_rejected_once.Goals as goal
 
-pub returns-clause-none : goal.returns-clause-none
-returns-clause-none g c = no_element_once
-
-pub returns-clause-more : goal.returns-clause-more
-returns-clause-more g c is all part rest =
-    let p = g.A.Typed.promise in
-    let others = g.B.TypedElements.elements in
-    element_before_once p others (both_true p.exact others.exact is all) part rest
-
-pub returns-clause-whole : goal.returns-clause-whole
-returns-clause-whole g c is once =
-    made_from_once g.T.From.from_gives (typed_elements g.B.TypedElements.elements)
-    (typed_elements_once g.B.TypedElements.elements is once)
+pub returns : goal.returns
+returns g c = record {
+  none = no_element_once;
+  more = λ is all part rest. let p = g.A.Typed.promise in
+      let others = g.B.TypedElements.elements in
+      element_before_once p others (both_true p.exact others.exact is all) part rest;
+  whole = λ is once. made_from_once g.T.From.from_gives (typed_elements g.B.TypedElements.elements)
+      (typed_elements_once g.B.TypedElements.elements is once);
+}

@@ -3,13 +3,9 @@ use Rattle.cbor4ii.specs.Laws.ItemsOnce.{raw_once, boxed_raw_once, plain_raw_onc
 use Rattle.cbor4ii.specs.Laws.StructsOnce.{skipped_once}
 use Rattle.cbor4ii.proofs.serde.laws.raw_items_are_rejected_once.Goals as goal
 
-pub returns-clause-lent : goal.returns-clause-lent
-returns-clause-lent c =
-    raw_once raw_content (skipped_once c.skipping_has_one_answer.ensures.at_most_one)
-
-pub returns-clause-boxed : goal.returns-clause-boxed
-returns-clause-boxed c =
-    boxed_raw_once (skipped_once c.skipping_has_one_answer.ensures.at_most_one)
-
-pub returns-clause-plain : goal.returns-clause-plain
-returns-clause-plain c = plain_raw_once c.reading_has_one_answer.ensures.at_most_one
+pub returns : goal.returns
+returns c = record {
+  lent = raw_once raw_content (skipped_once c.skipping_has_one_answer.ensures.at_most_one);
+  boxed = boxed_raw_once (skipped_once c.skipping_has_one_answer.ensures.at_most_one);
+  plain = plain_raw_once c.reading_has_one_answer.ensures.at_most_one;
+}

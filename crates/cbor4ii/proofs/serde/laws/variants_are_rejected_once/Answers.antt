@@ -5,17 +5,14 @@ use Rattle.cbor4ii.specs.Laws.EnumsOnce.{unit_case_once, held_case_once, cases_b
 use Rattle.cbor4ii.specs.Laws.StructsOnce.{made_struct_once}
 use Rattle.cbor4ii.proofs.serde.laws.variants_are_rejected_once.Goals as goal
 
-pub returns-clause-unit : goal.returns-clause-unit
-returns-clause-unit g c = unit_case_once
-
-pub returns-clause-held : goal.returns-clause-held
-returns-clause-held g c = held_case_once g.T.Typed.promise
-
-pub returns-clause-fields : goal.returns-clause-fields
-returns-clause-fields g c kinds own words cases is once others =
-    let fields = g.V.Places.fields own in
-    let value = g.K.Presences.made kinds words in
-    cases_by_once (fields_case fields value) (g.D.Cases.cases cases)
-    (held_case_once (made_struct text_key fields value)
-    (made_struct_once text_key fields value is once (g.met.K.Presences.fate kinds words own)))
-    others
+pub returns : goal.returns
+returns g c = record {
+  unit = unit_case_once;
+  held = held_case_once g.T.Typed.promise;
+  fields = λ kinds own words cases is once others. let fields = g.V.Places.fields own in
+      let value = g.K.Presences.made kinds words in
+      cases_by_once (fields_case fields value) (g.D.Cases.cases cases)
+      (held_case_once (made_struct text_key fields value)
+      (made_struct_once text_key fields value is once (g.met.K.Presences.fate kinds words own)))
+      others;
+}

@@ -4,25 +4,10 @@ use Rattle.cbor4ii.specs.Variants.{form_format}
 use Rattle.cbor4ii.proofs.Steps.{breaks_stepped, no_step_left, under}
 use Rattle.cbor4ii.proofs.serde.de.enum_accessor.begin_enum.Goals as goal
 
-pub returns-then-not-step_in-clause-opened : goal.returns-then-not-step_in-clause-opened
-returns-then-not-step_in-clause-opened g c = tt
-
 pub returns-then-not-step_in-clause-rejected : goal.returns-then-not-step_in-clause-rejected
 returns-then-not-step_in-clause-rejected g c =
     no_step_left form_format _ (search rules) c.if-not-step_in.ensures.budget
     c.step_in.ensures.others
-
-pub returns-then-not-step_in-clause-failed : goal.returns-then-not-step_in-clause-failed
-returns-then-not-step_in-clause-failed g c is = cc
-
-pub returns-in-Ok-clause-rejected : goal.returns-in-Ok-clause-rejected
-returns-in-Ok-clause-rejected g c = tt
-
-pub returns-in-Ok-clause-failed : goal.returns-in-Ok-clause-failed
-returns-in-Ok-clause-failed g c is = cc
-
-pub returns-in-Err-clause-opened : goal.returns-in-Err-clause-opened
-returns-in-Err-clause-opened g c = tt
 
 pub returns-in-Err-clause-rejected : goal.returns-in-Err-clause-rejected
 returns-in-Err-clause-rejected g c =

@@ -13,17 +13,11 @@ returns-then-first-clause-decodes g c =
     ok form_format (kept_next d.moves d.sound (omega (arith, c.if-first.true)) c.advance.ensures)
     (λ some. cc) (entry_sound (saw d.moves d.sound) c.if-first.true c.advance.ensures)
 
-pub returns-then-first-clause-failed : goal.returns-then-first-clause-failed
-returns-then-first-clause-failed g c is = cc
-
 pub returns-then-first-eq-STRING-clause-decodes : goal.returns-then-first-eq-STRING-clause-decodes
 returns-then-first-eq-STRING-clause-decodes g c =
     let d = c.in-Ok.ensures.decodes in
     ok form_format d.moves.by (λ some. cc)
     (name_sound (saw d.moves d.sound) c.if-first-eq-STRING.true)
-
-pub returns-then-first-eq-STRING-clause-failed : goal.returns-then-first-eq-STRING-clause-failed
-returns-then-first-eq-STRING-clause-failed g c is = cc
 
 pub returns-else-first-eq-STRING-clause-decodes : goal.returns-else-first-eq-STRING-clause-decodes
 returns-else-first-eq-STRING-clause-decodes g c =
@@ -41,9 +35,6 @@ returns-else-first-eq-STRING-clause-decodes g c =
       begins = rejects;
     }
 
-pub returns-else-first-eq-STRING-clause-failed : goal.returns-else-first-eq-STRING-clause-failed
-returns-else-first-eq-STRING-clause-failed g c is = cc
-
 pub returns-in-Err-clause-decodes : goal.returns-in-Err-clause-decodes
 returns-in-Err-clause-decodes g c =
     let d = c.in-Err.ensures.decodes in
@@ -56,6 +47,3 @@ returns-in-Err-clause-decodes g c =
       rejects = λ sure. form_ended d.begins;
       begins = form_ended d.begins;
     }
-
-pub returns-in-Err-clause-failed : goal.returns-in-Err-clause-failed
-returns-in-Err-clause-failed g c = c.in-Err.ensures.failed

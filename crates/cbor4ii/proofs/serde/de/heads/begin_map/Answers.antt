@@ -1,11 +1,8 @@
-use Rattle.std.proofs.Common.{ap, sym, arith, Err, codes, refl, rules}
+use Rattle.std.proofs.Common.{ap, sym, Err, codes, rules}
 use Rattle.cbor4ii_items.specs.Lengths.{length_format}
 use Rattle.cbor4ii.specs.Accessing.{left_after}
-use Rattle.cbor4ii.proofs.Steps.{no_step_left, under}
+use Rattle.cbor4ii.proofs.Steps.{no_step_left, under, parts_opened}
 use Rattle.cbor4ii.proofs.serde.de.heads.begin_map.Goals as goal
-
-pub returns-then-not-step_in-clause-opened : goal.returns-then-not-step_in-clause-opened
-returns-then-not-step_in-clause-opened g c = tt
 
 pub returns-then-not-step_in-clause-rejected : goal.returns-then-not-step_in-clause-rejected
 returns-then-not-step_in-clause-rejected g c =
@@ -13,31 +10,14 @@ returns-then-not-step_in-clause-rejected g c =
     c.if-not-step_in.ensures.budget c.step_in.ensures.others
 
 pub returns-in-Ok-Some-clause-opened : goal.returns-in-Ok-Some-clause-opened
-returns-in-Ok-Some-clause-opened g c = record {
-  within = g.S.Source.view c.step_in.new.self;
-  step = c.if-not-step_in.ensures.budget;
-  others = c.step_in.ensures.others;
-  kept = c.in-Ok-Some.ensures.moves.by;
-  progress = omega (arith, (c.in-Ok-Some.ensures.progress refl), c.step_in.ensures.others.bound);
-  length = c.in-Ok-Some.field-0;
-  head = c.in-Ok-Some.ensures.sound;
-  begun = sym (ap left_after c.in-Ok-Some.field-0-is);
-}
+returns-in-Ok-Some-clause-opened g c =
+    parts_opened (codes "map") 5 c.if-not-step_in.ensures.budget c.step_in.ensures.others
+    c.in-Ok-Some.ensures (sym (ap left_after c.in-Ok-Some.field-0-is))
 
 pub returns-in-Ok-None-clause-opened : goal.returns-in-Ok-None-clause-opened
-returns-in-Ok-None-clause-opened g c = record {
-  within = g.S.Source.view c.step_in.new.self;
-  step = c.if-not-step_in.ensures.budget;
-  others = c.step_in.ensures.others;
-  kept = c.in-Ok-None.ensures.moves.by;
-  progress = omega (arith, (c.in-Ok-None.ensures.progress refl), c.step_in.ensures.others.bound);
-  length = c.in-Ok-None.field-0;
-  head = c.in-Ok-None.ensures.sound;
-  begun = sym (ap left_after c.in-Ok-None.field-0-is);
-}
-
-pub returns-in-Err-clause-opened : goal.returns-in-Err-clause-opened
-returns-in-Err-clause-opened g c = tt
+returns-in-Ok-None-clause-opened g c =
+    parts_opened (codes "map") 5 c.if-not-step_in.ensures.budget c.step_in.ensures.others
+    c.in-Ok-None.ensures (sym (ap left_after c.in-Ok-None.field-0-is))
 
 pub returns-in-Err-clause-rejected : goal.returns-in-Err-clause-rejected
 returns-in-Err-clause-rejected g c =

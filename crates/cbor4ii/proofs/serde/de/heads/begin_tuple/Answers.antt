@@ -5,9 +5,6 @@ use Rattle.cbor4ii.proofs.Steps.{no_step_left, under}
 use Rattle.cbor4ii.proofs.Tupled.{count_length}
 use Rattle.cbor4ii.proofs.serde.de.heads.begin_tuple.Goals as goal
 
-pub returns-then-not-step_in-clause-opened : goal.returns-then-not-step_in-clause-opened
-returns-then-not-step_in-clause-opened g c = tt
-
 pub returns-then-not-step_in-clause-rejected : goal.returns-then-not-step_in-clause-rejected
 returns-then-not-step_in-clause-rejected g c =
     no_step_left (container_head_format c.args.len) _ (search rules) c.if-not-step_in.ensures.budget
@@ -24,9 +21,6 @@ returns-in-Ok-clause-opened g c = record {
   head = count_length c.in-Ok.ensures.sound;
   begun = refl;
 }
-
-pub returns-in-Err-clause-opened : goal.returns-in-Err-clause-opened
-returns-in-Err-clause-opened g c = tt
 
 pub returns-in-Err-clause-rejected : goal.returns-in-Err-clause-rejected
 returns-in-Err-clause-rejected g c =

@@ -15,6 +15,3 @@ returns-in-Some-Other g c =
     (answer_of (typed_value_or_error c.take_any_name-in-Some-Other.result _))
     (rw c.in-Some-Other.field-0-is at c.in-Some-Other.ensures)
     c.take_any_name-in-Some-Other.ensures
-
-pub returns-in-None : goal.returns-in-None
-returns-in-None g c = c.in-None.ensures.0

@@ -13,12 +13,6 @@ loop-part-preserved g c = (
   λ h. omega (arith, c.push.ensures.len),
 )
 
-pub returns-clause-put : goal.returns-clause-put
-returns-clause-put g c = λ has. c.loop-part.invariant.0
-
-pub returns-in_default-clause-put : goal.returns-in_default-clause-put
-returns-in_default-clause-put g c = λ has. c.loop-part.invariant.0
-
 pub returns-clause-bytes : goal.returns-clause-bytes
 returns-clause-bytes g c = first_bytes _ _ (λ i. Fits-lt-pow {w = w8} (c.type_inv.shown i))
 

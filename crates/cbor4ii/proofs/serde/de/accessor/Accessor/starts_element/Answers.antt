@@ -15,9 +15,6 @@ returns-in-Ok-false-clause-decodes g c =
 pub returns-in-Err-clause-decodes : goal.returns-in-Err-clause-decodes
 returns-in-Err-clause-decodes g c = rw c.in-Indefinite.is (start_rejected c.in-Err.ensures.decodes)
 
-pub returns-in-Err-clause-failed : goal.returns-in-Err-clause-failed
-returns-in-Err-clause-failed g c = c.in-Err.ensures.failed
-
 pub returns-in-Ok-true-clause-starts : goal.returns-in-Ok-true-clause-starts
 returns-in-Ok-true-clause-starts g c = record {
   same_reference = refl;

@@ -24,9 +24,6 @@ returns-in-Ok-new-clause-promised g c =
     (sound_as g.T.Typed.promise.format.reads (λ b. b.value) c.in-Ok-new.ensures.ok
     c.in-Ok.ensures.sound)
 
-pub returns-in-Ok-new-clause-after_item : goal.returns-in-Ok-new-clause-after_item
-returns-in-Ok-new-clause-after_item g c never = tt
-
 pub returns-clause-promised : goal.returns-clause-promised
 returns-clause-promised g c =
     out_of_memory (typed_box g.T.Typed.promise) refl c.in-Ok.ensures.moves.by

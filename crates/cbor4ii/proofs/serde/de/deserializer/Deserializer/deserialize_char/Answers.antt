@@ -1,42 +1,28 @@
 use Rattle.std.proofs.Common.{refl, inl, sym, ◌∙◌, subst}
-use Rattle.cbor4ii_items.specs.Laws.Steps.{moves_ok, moves_err}
+use Rattle.cbor4ii_items.specs.Laws.Steps.{moves_err}
 use Rattle.cbor4ii.specs.Character.{NoCharacter}
 use Rattle.cbor4ii.proofs.Characters.{char_sound, char_complete, char_rejects, other_moves}
 use Rattle.cbor4ii.proofs.Characters.{other_complete, other_rejects}
+use Rattle.cbor4ii.proofs.Promised.{ok}
 use Rattle.cbor4ii.proofs.serde.de.deserializer.Deserializer.deserialize_char.Goals as goal
 
 pub returns-in-Some : goal.returns-in-Some
-returns-in-Some g c = record {
-  moves = moves_ok c.in-Ok.ensures.moves;
-  progress = c.in-Ok.ensures.progress refl;
-  memory = tt;
-  sound = char_sound (sym c.as_str.ensures.value ∙ c.in-Some.ensures.one) c.in-Ok.ensures.sound;
-  complete = λ is sure. tt;
-  rejects = λ is sure. tt;
-  begins = λ is. tt;
-}
+returns-in-Some g c =
+    ok _ c.in-Ok.ensures.moves.by (c.in-Ok.ensures.progress refl)
+    (char_sound (sym c.as_str.ensures.value ∙ c.in-Some.ensures.one) c.in-Ok.ensures.sound)
 
 pub returns-in-Ok : goal.returns-in-Ok
-returns-in-Ok g c = record {
-  moves =
-      other_moves _ (subst NoCharacter c.as_str.ensures.value (c.in-None.ensures.other refl))
-      c.in-Ok.ensures.moves;
-  progress = tt;
-  memory = λ no. refl;
-  sound = tt;
-  complete =
-      λ is sure. other_complete _ (subst NoCharacter c.as_str.ensures.value
-      (c.in-None.ensures.other refl))
-      c.in-Ok.ensures.sound;
-  rejects =
-      λ is sure. other_rejects _ (subst NoCharacter c.as_str.ensures.value
-      (c.in-None.ensures.other refl))
-      refl c.in-Ok.ensures.sound;
-  begins =
-      λ is. other_rejects _ (subst NoCharacter c.as_str.ensures.value
-      (c.in-None.ensures.other refl))
-      refl c.in-Ok.ensures.sound;
-}
+returns-in-Ok g c =
+    let none = subst NoCharacter c.as_str.ensures.value (c.in-None.ensures.other refl) in
+    record {
+      moves = other_moves _ none c.in-Ok.ensures.moves;
+      progress = tt;
+      memory = λ no. refl;
+      sound = tt;
+      complete = λ is sure. other_complete _ none c.in-Ok.ensures.sound;
+      rejects = λ is sure. other_rejects _ none refl c.in-Ok.ensures.sound;
+      begins = λ is. other_rejects _ none refl c.in-Ok.ensures.sound;
+    }
 
 pub returns : goal.returns
 returns g c = record {

@@ -23,8 +23,5 @@ returns-in-Err-clause-promised g c =
     checked_err g.V.Typed.promise g.T.CheckedFrom.words g.T.CheckedFrom.makes
     g.T.CheckedFrom.takes_memory c.in-Err.ensures
 
-pub returns-in-Ok-checked_from-clause-after_value : goal.returns-in-Ok-checked_from-clause-after_value
-returns-in-Ok-checked_from-clause-after_value g c never = tt
-
 pub returns-in-Err-OutOfMemory-clause-after_value : goal.returns-in-Err-OutOfMemory-clause-after_value
 returns-in-Err-OutOfMemory-clause-after_value g c never out = (_, c.in-Ok.ensures.sound)

@@ -27,9 +27,6 @@ pub returns-clause-finishes : goal.returns-clause-finishes
 returns-clause-finishes g c =
     record { within = _; moves = c.deserialize.ensures.moves; closes = c.drop-self-2.ensures }
 
-pub returns-clause-wrong : goal.returns-clause-wrong
-returns-clause-wrong g c is = let has = c.if-not-self.false in cc
-
 pub returns-clause-memory : goal.returns-clause-memory
 returns-clause-memory g c = if_err _ c.deserialize.result c.deserialize.ensures.memory
 

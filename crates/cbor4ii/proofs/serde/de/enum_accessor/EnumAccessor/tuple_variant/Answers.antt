@@ -2,21 +2,6 @@ use Rattle.std.proofs.Common.{refl}
 use Rattle.cbor4ii_items.specs.Laws.Steps.{moves_err}
 use Rattle.cbor4ii.proofs.serde.de.enum_accessor.EnumAccessor.tuple_variant.Goals as goal
 
-pub returns-in-Ok : goal.returns-in-Ok
-returns-in-Ok g c = (
-  (refl, (λ w. refl), tt),
-  record {
-    rejected = tt;
-    same_reference = refl;
-    wrong = c.in-Ok.ensures.wrong;
-    opened = c.in-Ok.ensures.opened;
-    steps = refl;
-    left = refl;
-    memory = tt;
-    complete = tt;
-  },
-)
-
 pub returns-in-Err : goal.returns-in-Err
 returns-in-Err g c =
     let f = c.in-Err.ensures.finishes in (

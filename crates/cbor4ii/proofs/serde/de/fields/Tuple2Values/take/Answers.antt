@@ -52,12 +52,6 @@ returns-in-empty-clause-alters g c label which =
     (answer_of (typed_value_or_error c.skip_value.result _)) refl refl refl
     c.skip_value.ensures)
 
-pub returns-then-at-gt0-clause-moves : goal.returns-then-at-gt0-clause-moves
-returns-then-at-gt0-clause-moves g c = c.take.ensures.moves
-
-pub returns-then-at-gt0-clause-progress : goal.returns-then-at-gt0-clause-progress
-returns-then-at-gt0-clause-progress g c = c.take.ensures.progress
-
 pub returns-else-at-gt0-clause-moves : goal.returns-else-at-gt0-clause-moves
 returns-else-at-gt0-clause-moves g c =
     puts_moves g.P.Place.place g.P.Value.Typed.promise c.args.self.now.0 c.put_value.new.place
@@ -70,9 +64,6 @@ returns-else-at-gt0-clause-progress g c = on_some _ c.put_value.result c.put_val
     (g.S.Source.view c.args.de.now.reader) (g.S.Source.view c.put_value.new.de.reader)
     (answer_of (typed_value_or_error c.put_value.result c.put_value.new.failure))
     c.put_value.ensures)
-
-pub returns-in-empty-clause-moves : goal.returns-in-empty-clause-moves
-returns-in-empty-clause-moves g c = c.skip_value.ensures.moves
 
 pub returns-in-empty-clause-progress : goal.returns-in-empty-clause-progress
 returns-in-empty-clause-progress g c = on_some _ c.skip_value.result _

@@ -12,9 +12,6 @@ returns-clause-alters g c label which =
     skips no_more label c.args.self.now true
     (answer_of (typed_value_or_error c.skip_value.result _)) refl refl refl c.skip_value.ensures
 
-pub returns-clause-moves : goal.returns-clause-moves
-returns-clause-moves g c = c.skip_value.ensures.moves
-
 pub returns-clause-progress : goal.returns-clause-progress
 returns-clause-progress g c = on_some _ c.skip_value.result _
     (c.skip_value.ensures.progress refl)

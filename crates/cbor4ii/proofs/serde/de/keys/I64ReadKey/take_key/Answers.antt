@@ -1,4 +1,3 @@
-use Rattle.std.proofs.Common.{Ok, Err}
 use Rattle.cbor4ii.proofs.Keying.{key_placed}
 use Rattle.cbor4ii.proofs.serde.de.keys.I64ReadKey.take_key.Goals as goal
 
