@@ -1,7 +1,7 @@
 //! What reading asks of a reader: how often it looks, how many bytes a look wants, and how many
 //! have to have come where the reader waits for all that is wanted.
 use crate::readers::{Asked, Asks, Failure};
-use crate::rows::{ReadFrom, leaves};
+use crate::rows::{ByType, ReadFrom, WayOverAny, leaves};
 use cbor4ii_rw::error::{DecodeError, Never};
 use std::alloc::Global;
 use std::test::Fail;
@@ -14,10 +14,19 @@ pub const WINDOWS: [usize; 6] = [2, 8, 9, 24, 256, 257];
 /// nowhere.
 pub fn asks<T: ReadFrom + Drop>(
     alloc: Global,
+    reader: Asked<'_>,
+    bytes: &[u8],
+) -> Result<(bool, Asks), Fail> {
+    asks_by::<T, _>(&ByType, alloc, reader, bytes)
+}
+
+fn asks_by<T: Drop, R: WayOverAny<T>>(
+    how: &R,
+    alloc: Global,
     mut reader: Asked<'_>,
     bytes: &[u8],
 ) -> Result<(bool, Asks), Fail> {
-    let got = T::read_from(alloc, &mut reader);
+    let got = how.read_any(alloc, &mut reader);
     let asks = reader.asks();
     match got {
         Ok(_) => {
@@ -42,7 +51,20 @@ pub fn looks_at_most<T: ReadFrom + Drop>(
     looks: usize,
     come: usize,
 ) -> Result<(), Fail> {
-    let (was_read, asks) = asks::<T>(alloc, reader, bytes)?;
+    looks_at_most_by::<T, _>(&ByType, alloc, reader, bytes, is_read, looks, come)
+}
+
+/// The same where it is read in this way.
+pub fn looks_at_most_by<T: Drop, R: WayOverAny<T>>(
+    how: &R,
+    alloc: Global,
+    reader: Asked<'_>,
+    bytes: &[u8],
+    is_read: bool,
+    looks: usize,
+    come: usize,
+) -> Result<(), Fail> {
+    let (was_read, asks) = asks_by::<T, _>(how, alloc, reader, bytes)?;
     if was_read != is_read {
         return Err(Fail::new(format_args!("{bytes:?} is read or rejected otherwise")));
     }
@@ -60,6 +82,18 @@ pub fn looks_within_windows<T: ReadFrom + Drop>(
     bytes: &[u8],
     is_read: bool,
     most: usize,
+    looks: (usize, usize),
+) -> Result<(), Fail> {
+    looks_within_windows_by::<T, _>(&ByType, alloc, bytes, is_read, most, looks)
+}
+
+/// The same where it is read in this way.
+pub fn looks_within_windows_by<T: Drop, R: WayOverAny<T>>(
+    how: &R,
+    alloc: Global,
+    bytes: &[u8],
+    is_read: bool,
+    most: usize,
     (looks, by_byte): (usize, usize),
 ) -> Result<(), Fail> {
     for window in WINDOWS {
@@ -67,12 +101,12 @@ pub fn looks_within_windows<T: ReadFrom + Drop>(
             .with_window(window)
             .refusing_above(most.max(window));
         let come = bytes.len().saturating_add(window);
-        looks_at_most::<T>(alloc, reader, bytes, is_read, looks, come)?;
+        looks_at_most_by::<T, _>(how, alloc, reader, bytes, is_read, looks, come)?;
         let reader = Asked::new(bytes)
             .with_window(window)
             .refusing_above(most.max(window))
             .showing(1);
-        looks_at_most::<T>(alloc, reader, bytes, is_read, by_byte, come)?;
+        looks_at_most_by::<T, _>(how, alloc, reader, bytes, is_read, by_byte, come)?;
     }
     Ok(())
 }

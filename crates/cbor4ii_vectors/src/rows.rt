@@ -31,6 +31,23 @@ pub type Row<T> = (&'static [u8], Want<T>, &'static [u8]);
 /// left of them.
 pub type RowWithin<T> = (&'static [u8], usize, Want<T>, &'static [u8]);
 
+/// A row of a call: its name, bytes, the text of what it reads or of the error, and what is left.
+pub type Called = (
+    &'static str,
+    &'static [u8],
+    Want<&'static str>,
+    &'static [u8],
+);
+
+/// A row of a call within a limit, which stands after the bytes.
+pub type CalledWithin = (
+    &'static str,
+    &'static [u8],
+    usize,
+    Want<&'static str>,
+    &'static [u8],
+);
+
 // The steps of a reader that is given no other limit.
 const STEPS: usize = 256;
 // No row takes more shows or looks.
@@ -75,6 +92,113 @@ where
         + ReadBy<Stream>,
 {}
 
+/// Calls that differ by their names, so that one table has rows of several of them, and one function
+/// is proved for all.
+pub trait Calls {
+    /// The `Debug` text of what the call of this name reads from the beginning of what `reader` has
+    /// left. Of a name that is none of a call nothing is read, and the answer is an error.
+    fn call<S: Source>(
+        name: &str,
+        alloc: Global,
+        reader: &mut S,
+    ) -> Result<String, DecodeError<S::Error>>;
+}
+
+/// The `Debug` text of what a call read.
+pub fn says<T: Debug + Drop, E>(
+    alloc: Global,
+    got: Result<T, DecodeError<E>>,
+) -> Result<String, DecodeError<E>> {
+    let value = got?;
+    match format!(in alloc; "{value:?}") {
+        Ok(text) => Ok(text),
+        Err(_) => Err(DecodeError::OutOfMemory),
+    }
+}
+
+/// How what a row wants is read off one reader.
+pub trait Way<T, S: Source> {
+    /// Reads it from the beginning of what `reader` has left.
+    fn read(&self, alloc: Global, reader: &mut S) -> Result<T, DecodeError<S::Error>>;
+}
+
+/// By its type.
+pub struct ByType;
+
+impl<S: Source, T: ReadBy<S>> Way<T, S> for ByType {
+    fn read(&self, alloc: Global, reader: &mut S) -> Result<T, DecodeError<S::Error>> {
+        T::read_by(alloc, reader)
+    }
+}
+
+/// By the name of a call: its text.
+#[derive(Drop)]
+pub struct ByName<C> {
+    name: String,
+    of: PhantomData<C>,
+}
+
+impl<C> ByName<C> {
+    /// The call of this name.
+    pub fn new(alloc: Global, name: &str) -> Result<ByName<C>, AllocError> {
+        let of = PhantomData;
+        Ok(ByName {
+            name: String::from_str(alloc, name)?,
+            of,
+        })
+    }
+}
+
+impl<S: Source, C: Calls> Way<String, S> for ByName<C> {
+    fn read(&self, alloc: Global, reader: &mut S) -> Result<String, DecodeError<S::Error>> {
+        C::call(self.name.as_str(), alloc, reader)
+    }
+}
+
+/// How what a row wants is read off any reader.
+pub trait WayOverAny<T> {
+    /// Reads it from the beginning of what `reader` has left.
+    fn read_any<S: Source>(
+        &self,
+        alloc: Global,
+        reader: &mut S,
+    ) -> Result<T, DecodeError<S::Error>>;
+}
+
+impl<T: ReadFrom> WayOverAny<T> for ByType {
+    fn read_any<S: Source>(
+        &self,
+        alloc: Global,
+        reader: &mut S,
+    ) -> Result<T, DecodeError<S::Error>> {
+        T::read_from(alloc, reader)
+    }
+}
+
+impl<C: Calls> WayOverAny<String> for ByName<C> {
+    fn read_any<S: Source>(
+        &self,
+        alloc: Global,
+        reader: &mut S,
+    ) -> Result<String, DecodeError<S::Error>> {
+        C::call(self.name.as_str(), alloc, reader)
+    }
+}
+
+/// How it is read off each reader that a row is tried over.
+pub trait WayOverEach<T>: Way<T, SliceReader<'static>>
+    + Way<T, SegmentReader<'static>>
+    + Way<T, TestReader<'static>>
+    + Way<T, Stream> {}
+
+impl<T, R> WayOverEach<T> for R
+where
+    R: Way<T, SliceReader<'static>>
+        + Way<T, SegmentReader<'static>>
+        + Way<T, TestReader<'static>>
+        + Way<T, Stream>,
+{}
+
 /// One after the other.
 #[derive(Debug, PartialEq, Drop)]
 pub struct Pair<A, B>(pub A, pub B);
@@ -117,7 +241,7 @@ where
     T: ReadFrom + PartialEq + Debug + Drop,
 {
     for (bytes, limit, want, rest) in rows {
-        reads_alike_within(alloc, bytes, *limit, want, rest)?;
+        reads_each_within(&ByType, alloc, bytes, *limit, want, rest)?;
     }
     Ok(())
 }
@@ -133,7 +257,7 @@ pub fn reads_within<T>(
 where
     T: ReadFrom + PartialEq + Debug + Drop,
 {
-    reads_alike_within(alloc, bytes, limit, want, rest)
+    reads_each_within(&ByType, alloc, bytes, limit, want, rest)
 }
 
 /// Reads a row of many bytes over each reader with so many steps, in one piece and with no fault.
@@ -147,7 +271,7 @@ pub fn reads_by_each<T>(
 where
     T: ReadFrom + PartialEq + Debug + Drop,
 {
-    reads_whole(alloc, bytes, limit, want, rest)
+    reads_whole(&ByType, alloc, bytes, limit, want, rest)
 }
 
 /// Reads all of the bytes over readers that end what they show at about as many bytes as one look
@@ -160,15 +284,28 @@ pub fn reads_around_a_look<T>(
 where
     T: ReadFrom + PartialEq + Debug + Drop,
 {
+    around_a_look(&ByType, alloc, bytes, want)
+}
+
+fn around_a_look<T, R>(
+    how: &R,
+    alloc: Global,
+    bytes: &'static [u8],
+    want: &Want<T>,
+) -> Result<(), Fail>
+where
+    T: PartialEq + Debug + Drop,
+    R: WayOverEach<T>,
+{
     let mut slice = SliceReader::with_limit(bytes, STEPS);
-    reads_over(alloc, &mut slice, bytes, want, b"")?;
+    over(how, alloc, &mut slice, bytes, want, b"")?;
     for shown in ABOUT_A_LOOK {
         let (first, second) = bytes.split_at(shown.min(bytes.len()));
-        let segments = [first, second];
-        let mut reader = SegmentReader::with_limit(&segments, STEPS);
-        reads_over(alloc, &mut reader, bytes, want, b"")?;
+        let segments = vec![in alloc; first, second]?.leak();
+        let mut reader = SegmentReader::with_limit(segments, STEPS);
+        over(how, alloc, &mut reader, bytes, want, b"")?;
         let mut stream = stream(bytes, shown, usize::MAX, STEPS);
-        reads_over(alloc, &mut stream, bytes, want, b"")?;
+        over(how, alloc, &mut stream, bytes, want, b"")?;
     }
     Ok(())
 }
@@ -183,9 +320,66 @@ pub fn reads_alike<T>(
 where
     T: ReadByEach + PartialEq + Debug + Drop,
 {
-    reads_alike_within(alloc, bytes, STEPS, want, rest)?;
+    reads_each(&ByType, alloc, bytes, want, rest)
+}
+
+fn reads_each<T, R>(
+    how: &R,
+    alloc: Global,
+    bytes: &'static [u8],
+    want: &Want<T>,
+    rest: &[u8],
+) -> Result<(), Fail>
+where
+    T: PartialEq + Debug + Drop,
+    R: WayOverEach<T>,
+{
+    reads_each_within(how, alloc, bytes, STEPS, want, rest)?;
     let mut unlimited = TestReader::unlimited(bytes);
-    reads_over(alloc, &mut unlimited, bytes, want, rest)
+    over(how, alloc, &mut unlimited, bytes, want, rest)
+}
+
+/// Makes the call of each row over each reader.
+pub fn calls_rows<C: Calls>(alloc: Global, rows: &[Called]) -> Result<(), Fail> {
+    for (name, bytes, want, rest) in rows {
+        let how = ByName::<C>::new(alloc, name)?;
+        reads_each(&how, alloc, bytes, &text_of(alloc, want)?, rest)?;
+    }
+    Ok(())
+}
+
+/// Makes the call of each row within its limit, over each reader that counts its steps.
+pub fn calls_rows_within<C: Calls>(alloc: Global, rows: &[CalledWithin]) -> Result<(), Fail> {
+    for (name, bytes, limit, want, rest) in rows {
+        let how = ByName::<C>::new(alloc, name)?;
+        reads_each_within(&how, alloc, bytes, *limit, &text_of(alloc, want)?, rest)?;
+    }
+    Ok(())
+}
+
+/// Makes the call of a row of many bytes over each reader, in one piece and with no fault.
+pub fn call_by_each<C: Calls>(alloc: Global, row: &CalledWithin) -> Result<(), Fail> {
+    let (name, bytes, limit, want, rest) = row;
+    let how = ByName::<C>::new(alloc, name)?;
+    reads_whole(&how, alloc, bytes, *limit, &text_of(alloc, want)?, rest)
+}
+
+/// Makes the call over the readers of `reads_around_a_look`: what it reads has this text.
+pub fn call_around_a_look<C: Calls>(
+    alloc: Global,
+    name: &str,
+    bytes: &'static [u8],
+    text: &str,
+) -> Result<(), Fail> {
+    let want = Ok(String::from_str(alloc, text)?);
+    around_a_look(&ByName::<C>::new(alloc, name)?, alloc, bytes, &want)
+}
+
+fn text_of(alloc: Global, want: &Want<&str>) -> Result<Want<String>, AllocError> {
+    match want {
+        Ok(text) => Ok(Ok(String::from_str(alloc, text)?)),
+        Err(rejection) => Ok(Err(rejection)),
+    }
 }
 
 /// A value by its `Debug` text, so that a row of values that have to be built is a plain constant.
@@ -240,14 +434,16 @@ where
     T: ReadFrom + Debug + Drop,
 {
     for (bytes, limit, want, rest) in rows {
-        reads_alike_within(alloc, bytes, *limit, &by_text::<T>(alloc, want)?, rest)?;
+        let want = by_text::<T>(alloc, want)?;
+        reads_each_within(&ByType, alloc, bytes, *limit, &want, rest)?;
     }
     Ok(())
 }
 
 // Reads the bytes over each reader that counts its steps, with so many of them. It is no matter
 // whether borrowed slices are lent.
-fn reads_alike_within<T>(
+fn reads_each_within<T, R>(
+    how: &R,
     alloc: Global,
     bytes: &'static [u8],
     limit: usize,
@@ -255,18 +451,20 @@ fn reads_alike_within<T>(
     rest: &[u8],
 ) -> Result<(), Fail>
 where
-    T: ReadByEach + PartialEq + Debug + Drop,
+    T: PartialEq + Debug + Drop,
+    R: WayOverEach<T>,
 {
-    reads_whole(alloc, bytes, limit, want, rest)?;
-    reads_in_segments(alloc, bytes, limit, want, rest)?;
-    fails_at_each_show(alloc, bytes, limit, false, Some(want))?;
-    fails_at_each_show(alloc, bytes, limit, true, Some(want))?;
-    fails_at_each_look(alloc, bytes, limit, Some(want))?;
-    asks_nothing_after(alloc, item_of(bytes, rest), limit, want)
+    reads_whole(how, alloc, bytes, limit, want, rest)?;
+    reads_in_segments(how, alloc, bytes, limit, want, rest)?;
+    fails_at_each_show(how, alloc, bytes, limit, false, Some(want))?;
+    fails_at_each_show(how, alloc, bytes, limit, true, Some(want))?;
+    fails_at_each_look(how, alloc, bytes, limit, Some(want))?;
+    asks_nothing_after(how, alloc, item_of(bytes, rest), limit, want)
 }
 
 // Over each reader, with no fault and in one piece.
-fn reads_whole<T>(
+fn reads_whole<T, R>(
+    how: &R,
     alloc: Global,
     bytes: &'static [u8],
     limit: usize,
@@ -274,22 +472,24 @@ fn reads_whole<T>(
     rest: &[u8],
 ) -> Result<(), Fail>
 where
-    T: ReadByEach + PartialEq + Debug + Drop,
+    T: PartialEq + Debug + Drop,
+    R: WayOverEach<T>,
 {
     let mut slice = SliceReader::with_limit(bytes, limit);
-    reads_over(alloc, &mut slice, bytes, want, rest)?;
+    over(how, alloc, &mut slice, bytes, want, rest)?;
     let mut long = TestReader::long(bytes, limit);
-    reads_over(alloc, &mut long, bytes, want, rest)?;
+    over(how, alloc, &mut long, bytes, want, rest)?;
     let mut whole = TestReader::whole(bytes, limit);
-    reads_over(alloc, &mut whole, bytes, want, rest)?;
+    over(how, alloc, &mut whole, bytes, want, rest)?;
     let mut in_turn = TestReader::in_turn(bytes, limit);
-    reads_over(alloc, &mut in_turn, bytes, want, rest)?;
-    reads_short(alloc, bytes, limit, want, rest)
+    over(how, alloc, &mut in_turn, bytes, want, rest)?;
+    reads_short(how, alloc, bytes, limit, want, rest)
 }
 
 // Over readers whose bytes do not outlive the fill: one that shows a byte at a time, and streams
 // that show one at a time and all that is left.
-fn reads_short<T>(
+fn reads_short<T, R>(
+    how: &R,
     alloc: Global,
     bytes: &'static [u8],
     limit: usize,
@@ -297,13 +497,14 @@ fn reads_short<T>(
     rest: &[u8],
 ) -> Result<(), Fail>
 where
-    T: ReadBy<TestReader<'static>> + ReadBy<Stream> + PartialEq + Debug + Drop,
+    T: PartialEq + Debug + Drop,
+    R: Way<T, TestReader<'static>> + Way<T, Stream>,
 {
     let mut short = TestReader::short(bytes, limit);
-    reads_over(alloc, &mut short, bytes, want, rest)?;
+    over(how, alloc, &mut short, bytes, want, rest)?;
     for most in [1, usize::MAX] {
         let mut stream = stream(bytes, most, usize::MAX, limit);
-        reads_over(alloc, &mut stream, bytes, want, rest)?;
+        over(how, alloc, &mut stream, bytes, want, rest)?;
     }
     Ok(())
 }
@@ -327,7 +528,8 @@ fn cuts(alloc: Global, bytes: &'static [u8]) -> Result<&'static [[&'static [u8];
 }
 
 // Reads the bytes with so many steps over two segments, for each place where they can be cut.
-fn reads_in_segments<T>(
+fn reads_in_segments<T, R>(
+    how: &R,
     alloc: Global,
     bytes: &'static [u8],
     limit: usize,
@@ -335,11 +537,12 @@ fn reads_in_segments<T>(
     rest: &[u8],
 ) -> Result<(), Fail>
 where
-    T: ReadBy<SegmentReader<'static>> + PartialEq + Debug + Drop,
+    T: PartialEq + Debug + Drop,
+    R: Way<T, SegmentReader<'static>>,
 {
     for segments in cuts(alloc, bytes)? {
         let mut reader = SegmentReader::with_limit(segments, limit);
-        reads_over(alloc, &mut reader, bytes, want, rest)?;
+        over(how, alloc, &mut reader, bytes, want, rest)?;
     }
     Ok(())
 }
@@ -367,10 +570,10 @@ where
     reads_over(alloc, &mut unlimited, bytes, want, rest)?;
     let mut whole = TestReader::whole(bytes, STEPS);
     reads_over(alloc, &mut whole, bytes, want, rest)?;
-    fails_at_each_show::<T>(alloc, bytes, STEPS, false, None)?;
-    fails_at_each_show(alloc, bytes, STEPS, true, Some(want))?;
-    fails_at_each_look::<T>(alloc, bytes, STEPS, None)?;
-    asks_whole_nothing_after(alloc, item_of(bytes, rest), STEPS, want)
+    fails_at_each_show::<T, _>(&ByType, alloc, bytes, STEPS, false, None)?;
+    fails_at_each_show(&ByType, alloc, bytes, STEPS, true, Some(want))?;
+    fails_at_each_look::<T, _>(&ByType, alloc, bytes, STEPS, None)?;
+    asks_whole_nothing_after(&ByType, alloc, item_of(bytes, rest), STEPS, want)
 }
 
 /// What is borrowed is rejected with so many steps, over a slice and over a zero-copy reader.
@@ -437,9 +640,9 @@ pub fn lends_short<T>(
 where
     T: ReadBy<TestReader<'static>> + ReadBy<Stream> + PartialEq + Debug + Drop,
 {
-    reads_short(alloc, bytes, STEPS, &want, rest)?;
-    fails_at_each_show(alloc, bytes, STEPS, false, Some(&want))?;
-    fails_at_each_look(alloc, bytes, STEPS, Some(&want))
+    reads_short(&ByType, alloc, bytes, STEPS, &want, rest)?;
+    fails_at_each_show(&ByType, alloc, bytes, STEPS, false, Some(&want))?;
+    fails_at_each_look(&ByType, alloc, bytes, STEPS, Some(&want))
 }
 
 /// Reads over this reader, which holds `bytes`: the answer, the bytes left, and the steps as
@@ -455,7 +658,23 @@ where
     T: ReadBy<S> + PartialEq + Debug + Drop,
     S: Source,
 {
-    is_same(answer(alloc, reader, bytes)?, bytes, want)?;
+    over(&ByType, alloc, reader, bytes, want, rest)
+}
+
+fn over<T, S, R>(
+    how: &R,
+    alloc: Global,
+    reader: &mut S,
+    bytes: &[u8],
+    want: &Want<T>,
+    rest: &[u8],
+) -> Result<(), Fail>
+where
+    T: PartialEq + Debug + Drop,
+    S: Source,
+    R: Way<T, S>,
+{
+    is_same(answer(how, alloc, reader, bytes)?, bytes, want)?;
     leaves(reader, bytes, rest)
 }
 
@@ -466,7 +685,7 @@ where
     T: ReadBy<S> + Drop,
     S: Source,
 {
-    match answer::<T, S>(alloc, reader, bytes)? {
+    match answer::<T, S, _>(&ByType, alloc, reader, bytes)? {
         Ok(value) => {
             leaves(reader, bytes, b"")?;
             Ok(value)
@@ -477,17 +696,19 @@ where
 
 // What is read, with the steps as before. Want of memory is the failure of the test, and leaves an
 // end of the bytes.
-fn answer<T, S>(
+fn answer<T, S, R>(
+    how: &R,
     alloc: Global,
     reader: &mut S,
     bytes: &[u8],
 ) -> Result<Result<T, DecodeError<S::Error>>, Fail>
 where
-    T: ReadBy<S> + Drop,
+    T: Drop,
     S: Source,
+    R: Way<T, S>,
 {
     let budget = steps(reader);
-    let got = T::read_by(alloc, reader);
+    let got = how.read(alloc, reader);
     if steps(reader) != budget {
         return Err(Fail::new(format_args!("not {budget} steps after {bytes:?}")));
     }
@@ -519,44 +740,75 @@ pub fn ends_at_each_prefix<T>(alloc: Global, item: &'static [u8], limit: usize) 
 where
     T: ReadFrom + Debug + Drop,
 {
+    ends_at_each::<T, _>(&ByType, alloc, item, limit)
+}
+
+/// Each proper prefix of the call's item is the end of the input, over the same readers.
+pub fn call_ends_at_each_prefix<C: Calls>(
+    alloc: Global,
+    name: &str,
+    item: &'static [u8],
+) -> Result<(), Fail> {
+    ends_at_each::<String, _>(&ByName::<C>::new(alloc, name)?, alloc, item, STEPS)
+}
+
+fn ends_at_each<T: Debug + Drop, R: WayOverAny<T>>(
+    how: &R,
+    alloc: Global,
+    item: &'static [u8],
+    limit: usize,
+) -> Result<(), Fail> {
     for shown in 0..item.len() {
         let prefix = &item[..shown];
-        ends::<T, _>(alloc, &mut SliceReader::with_limit(prefix, limit), prefix)?;
-        ends::<T, _>(alloc, &mut TestReader::long(prefix, limit), prefix)?;
-        ends::<T, _>(alloc, &mut TestReader::short(prefix, limit), prefix)?;
-        ends::<T, _>(alloc, &mut TestReader::whole(prefix, limit), prefix)?;
-        ends::<T, _>(alloc, &mut TestReader::in_turn(prefix, limit), prefix)?;
-        ends::<T, _>(alloc, &mut TestReader::unlimited(prefix), prefix)?;
-        ends_in_segments::<T>(alloc, prefix, limit)?;
+        ends::<T, _, _>(
+            how,
+            alloc,
+            &mut SliceReader::with_limit(prefix, limit),
+            prefix,
+        )?;
+        ends::<T, _, _>(how, alloc, &mut TestReader::long(prefix, limit), prefix)?;
+        ends::<T, _, _>(how, alloc, &mut TestReader::short(prefix, limit), prefix)?;
+        ends::<T, _, _>(how, alloc, &mut TestReader::whole(prefix, limit), prefix)?;
+        ends::<T, _, _>(how, alloc, &mut TestReader::in_turn(prefix, limit), prefix)?;
+        ends::<T, _, _>(how, alloc, &mut TestReader::unlimited(prefix), prefix)?;
+        ends_in_segments::<T, _>(how, alloc, prefix, limit)?;
         for most in [1, usize::MAX] {
-            ends::<T, _>(alloc, &mut stream(prefix, most, usize::MAX, limit), prefix)?;
+            ends::<T, _, _>(
+                how,
+                alloc,
+                &mut stream(prefix, most, usize::MAX, limit),
+                prefix,
+            )?;
         }
     }
     Ok(())
 }
 
 // In two halves, with no byte after them.
-fn ends_in_segments<T: ReadFrom + Debug + Drop>(
+fn ends_in_segments<T: Debug + Drop, R: WayOverAny<T>>(
+    how: &R,
     alloc: Global,
     prefix: &[u8],
     limit: usize,
 ) -> Result<(), Fail> {
     let (first, second) = prefix.split_at(prefix.len() / 2);
     let segments = [first, second, b""];
-    ends::<T, _>(
+    ends::<T, _, _>(
+        how,
         alloc,
         &mut SegmentReader::with_limit(&segments, limit),
         prefix,
     )
 }
 
-fn ends<T: ReadFrom + Debug + Drop, S: Source>(
+fn ends<T: Debug + Drop, S: Source, R: WayOverAny<T>>(
+    how: &R,
     alloc: Global,
     reader: &mut S,
     prefix: &[u8],
 ) -> Result<(), Fail> {
     let budget = steps(reader);
-    let got = T::read_from(alloc, reader);
+    let got = how.read_any(alloc, reader);
     if matches!(got, Err(DecodeError::OutOfMemory)) {
         return Err(Fail::from(DecodeError::<Never>::OutOfMemory));
     }
@@ -626,7 +878,8 @@ pub fn steps<S: Source>(reader: &mut S) -> u16 {
 // A reader that fails at the first show, at the second, and so on until none is left to fail: by
 // bytes or all at once, and it forgets what is left or does not. Where it does not fail, the answer
 // is what is wanted, if anything is.
-fn fails_at_each_show<T: ReadBy<TestReader<'static>> + PartialEq + Debug + Drop>(
+fn fails_at_each_show<T: PartialEq + Debug + Drop, R: Way<T, TestReader<'static>>>(
+    how: &R,
     alloc: Global,
     bytes: &'static [u8],
     limit: usize,
@@ -635,8 +888,14 @@ fn fails_at_each_show<T: ReadBy<TestReader<'static>> + PartialEq + Debug + Drop>
 ) -> Result<(), Fail> {
     for shows in 0..MOST_CALLS {
         let forgetting = failing(bytes, limit, is_whole, shows).forgetting();
-        let has_forgotten = fails(alloc, forgetting, bytes, want)?;
-        let has_failed = fails(alloc, failing(bytes, limit, is_whole, shows), bytes, want)?;
+        let has_forgotten = fails(how, alloc, forgetting, bytes, want)?;
+        let has_failed = fails(
+            how,
+            alloc,
+            failing(bytes, limit, is_whole, shows),
+            bytes,
+            want,
+        )?;
         if !has_failed && !has_forgotten {
             return Ok(());
         }
@@ -659,14 +918,15 @@ fn failing(
 
 // Whether the reader failed. Then the answer is its error, and else what is wanted, if anything is.
 // An end of the bytes is left, and the budget is as before.
-fn fails<T: ReadBy<TestReader<'static>> + PartialEq + Debug + Drop>(
+fn fails<T: PartialEq + Debug + Drop, R: Way<T, TestReader<'static>>>(
+    how: &R,
     alloc: Global,
     mut reader: TestReader<'static>,
     bytes: &[u8],
     want: Option<&Want<T>>,
 ) -> Result<bool, Fail> {
     let limit = reader.steps();
-    let got = T::read_by(alloc, &mut reader);
+    let got = how.read(alloc, &mut reader);
     let is_read = matches!(got, Err(DecodeError::Read(Failure)));
     let is_kept = is_read == (reader.failures() == 1)
         && reader.steps() == limit
@@ -693,14 +953,15 @@ fn is_as_wanted<T: PartialEq + Debug + Drop, E: Debug + Drop>(
 
 // A stream that fails at the first look, at the second, and so on until none is left to fail. Then
 // the answer is what is wanted, if anything is.
-fn fails_at_each_look<T: ReadBy<Stream> + PartialEq + Debug + Drop>(
+fn fails_at_each_look<T: PartialEq + Debug + Drop, R: Way<T, Stream>>(
+    how: &R,
     alloc: Global,
     bytes: &'static [u8],
     limit: usize,
     want: Option<&Want<T>>,
 ) -> Result<(), Fail> {
     for looks in 0..MOST_CALLS {
-        if !fails_at_look(alloc, bytes, limit, looks, want)? {
+        if !fails_at_look(how, alloc, bytes, limit, looks, want)? {
             return Ok(());
         }
     }
@@ -710,7 +971,8 @@ fn fails_at_each_look<T: ReadBy<Stream> + PartialEq + Debug + Drop>(
 // Whether the stream failed. Then the answer is its error, and else what is wanted, if anything is.
 // The budget is as before, and the reader over it takes of the stream what it took, and no byte
 // more.
-fn fails_at_look<T: ReadBy<Stream> + PartialEq + Debug + Drop>(
+fn fails_at_look<T: PartialEq + Debug + Drop, R: Way<T, Stream>>(
+    how: &R,
     alloc: Global,
     bytes: &'static [u8],
     limit: usize,
@@ -719,7 +981,7 @@ fn fails_at_look<T: ReadBy<Stream> + PartialEq + Debug + Drop>(
 ) -> Result<bool, Fail> {
     let mut reader = stream(bytes, 2, looks, limit);
     let budget = steps(&mut reader);
-    let got = T::read_by(alloc, &mut reader);
+    let got = how.read(alloc, &mut reader);
     let is_read = matches!(
         &got,
         Err(DecodeError::Read(error)) if error.kind() == ErrorKind::Other
@@ -738,65 +1000,71 @@ fn fails_at_look<T: ReadBy<Stream> + PartialEq + Debug + Drop>(
 // The item of a row that is read, alone, over readers that fail in the place of showing that
 // nothing is left: the answer is the same, since an item says itself where it ends. A row that
 // takes no byte is no such row, since what follows may say what it is.
-fn asks_nothing_after<T>(
+fn asks_nothing_after<T, R>(
+    how: &R,
     alloc: Global,
     item: &'static [u8],
     limit: usize,
     want: &Want<T>,
 ) -> Result<(), Fail>
 where
-    T: ReadBy<TestReader<'static>> + ReadBy<Stream> + PartialEq + Debug + Drop,
+    T: PartialEq + Debug + Drop,
+    R: Way<T, TestReader<'static>> + Way<T, Stream>,
 {
     if want.is_err() || item.is_empty() {
         return Ok(());
     }
-    asks_whole_nothing_after(alloc, item, limit, want)?;
+    asks_whole_nothing_after(how, alloc, item, limit, want)?;
     let mut short = TestReader::short(item, limit).failing_at_end();
-    is_same(T::read_by(alloc, &mut short), item, want)?;
+    is_same(how.read(alloc, &mut short), item, want)?;
     let mut short = TestReader::short(item, limit).waiting();
-    is_same(T::read_by(alloc, &mut short), item, want)?;
+    is_same(how.read(alloc, &mut short), item, want)?;
     for most in [1, usize::MAX] {
         let stream = FailingStream::new(item, most, usize::MAX).failing_at_end();
         let mut reader = IoReader::with_limit(stream, limit);
-        is_same(T::read_by(alloc, &mut reader), item, want)?;
+        is_same(how.read(alloc, &mut reader), item, want)?;
     }
     Ok(())
 }
 
 // The item of a row that is read, alone, over readers that show all that is left, or what is
 // wanted. They fail where it is not enough, and the answer is the same.
-fn asks_whole_nothing_after<T>(
+fn asks_whole_nothing_after<T, R>(
+    how: &R,
     alloc: Global,
     item: &'static [u8],
     limit: usize,
     want: &Want<T>,
 ) -> Result<(), Fail>
 where
-    T: ReadBy<TestReader<'static>> + PartialEq + Debug + Drop,
+    T: PartialEq + Debug + Drop,
+    R: Way<T, TestReader<'static>>,
 {
     if want.is_err() {
         return Ok(());
     }
     let mut whole = TestReader::whole(item, limit).failing_at_end();
-    is_same(T::read_by(alloc, &mut whole), item, want)?;
-    waits_for_nothing_after(alloc, item, limit, want)
+    is_same(how.read(alloc, &mut whole), item, want)?;
+    waits_for_nothing_after(how, alloc, item, limit, want)
 }
 
 // The item of a row, alone, over readers that wait for all that is wanted. No look asks for a byte
 // that the item does not need, and each complete item is read.
-fn waits_for_nothing_after<T>(
+fn waits_for_nothing_after<T, R>(
+    how: &R,
     alloc: Global,
     item: &'static [u8],
     limit: usize,
     want: &Want<T>,
 ) -> Result<(), Fail>
 where
-    T: ReadBy<TestReader<'static>> + PartialEq + Debug + Drop,
+    T: PartialEq + Debug + Drop,
+    R: Way<T, TestReader<'static>>,
 {
     let mut whole = TestReader::whole(item, limit).waiting();
-    is_same(T::read_by(alloc, &mut whole), item, want)?;
+    is_same(how.read(alloc, &mut whole), item, want)?;
     let mut wanted = TestReader::wanted(item, limit).waiting();
-    is_same(T::read_by(alloc, &mut wanted), item, want)
+    is_same(how.read(alloc, &mut wanted), item, want)
 }
 
 // What a row takes of its bytes, of which `rest` is left.

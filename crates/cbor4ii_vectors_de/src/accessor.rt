@@ -1,13 +1,12 @@
 //! What is read by the accessor of arrays and maps, part by part.
 use crate::nested::{nested, nested_value};
-use crate::typed::Answer::{self, Custom, Is};
-use crate::typed::{Take, reads_all};
+use crate::typed::{Answer, TypedCalls, calls, no_call, shows};
 use cbor4ii::Value;
 use cbor4ii::dec::{Decode, IgnoredAny};
 use cbor4ii::serde::{Accessor, DecodeError, Deserialize, Deserializer};
 use cbor4ii_rw::error as core_error;
 use cbor4ii_rw::read::Source;
-use cbor4ii_vectors::rows::{ReadFrom, Row, RowWithin, reads};
+use cbor4ii_vectors::rows::{Called, CalledWithin, ReadFrom, reads};
 use cbor4ii_vectors::{eof, mismatch, table};
 use std::alloc::Global;
 use std::test::Fail;
@@ -16,41 +15,9 @@ use std::test::Fail;
 #[derive(Debug, PartialEq, Drop)]
 struct First(Option<usize>, Option<u8>, Option<usize>);
 
-impl Take for First {
-    fn take<S: Source>(
-        alloc: Global,
-        de: &mut Deserializer<S>,
-    ) -> Result<First, DecodeError<S::Error>> {
-        let mut items = de.deserialize_seq()?;
-        let before = items.size_hint();
-        let first = items.next_element(alloc)?;
-        Ok(First(before, first, items.size_hint()))
-    }
-}
-
 /// An array that was opened and not read.
 #[derive(Debug, PartialEq, Drop)]
 struct Dropped;
-
-impl Take for Dropped {
-    fn take<S: Source>(
-        alloc: Global,
-        de: &mut Deserializer<S>,
-    ) -> Result<Dropped, DecodeError<S::Error>> {
-        de.deserialize_seq()?;
-        Ok(Dropped)
-    }
-}
-
-const FIRSTS: &[Row<Answer<First>>] = table! {
-    (b"\x82\x01\x02", Ok(Is(First(Some(2), Some(1), Some(1)))), b"\x02"),
-    (b"\x9f\x01\x02\xff", Ok(Is(First(None, Some(1), None))), b"\x02\xff"),
-    (b"\x9f\xff\x01", Ok(Is(First(None, None, None))), b"\x01"),
-};
-
-const DROPPED: &[RowWithin<Answer<Dropped>>] = table! {
-    (b"\x81\x80", 1, Ok(Is(Dropped)), b"\x80"),
-};
 
 /// The item after the head of an array, which was opened and dropped.
 #[derive(Debug, PartialEq, Drop)]
@@ -62,7 +29,7 @@ impl ReadFrom for AfterDropped {
         reader: &mut S,
     ) -> Result<AfterDropped, core_error::DecodeError<S::Error>> {
         let mut de = Deserializer::new(reader);
-        if let Answer::Is(Dropped) = Answer::of(Dropped::take(alloc, &mut de))? {
+        if let Answer::Is(_) = Answer::of(Parts::make("dropped", alloc, &mut de))? {
             return Ok(AfterDropped(Value::decode(alloc, de.into_inner())?));
         }
         Err(core_error::DecodeError::Custom {
@@ -80,113 +47,22 @@ fn what_stands_after_a_dropped_accessor(rt: HostRuntime) -> Result<(), Fail> {
     reads(alloc, nested(alloc, 128)?, value, b"")
 }
 
-#[test]
-fn a_dropped_accessor_moves_no_byte(rt: HostRuntime) -> Result<(), Fail> {
-    let alloc = rt.alloc();
-    reads_all(alloc, FIRSTS, &[])?;
-    reads_all(alloc, &[], DROPPED)
-}
-
 /// One item, and what two further calls answer.
 #[derive(Debug, PartialEq, Drop)]
 struct Ended(Option<u8>, Option<u8>, Option<u8>);
 
-impl Take for Ended {
-    fn take<S: Source>(
-        alloc: Global,
-        de: &mut Deserializer<S>,
-    ) -> Result<Ended, DecodeError<S::Error>> {
-        let mut items = de.deserialize_seq()?;
-        let first = items.next_element(alloc)?;
-        let second = items.next_element(alloc)?;
-        Ok(Ended(first, second, items.next_element(alloc)?))
-    }
-}
-
-const ENDED: &[Row<Answer<Ended>>] = table! {
-    (b"\x81\x01\xff", Ok(Is(Ended(Some(1), None, None))), b"\xff"),
-    (b"\x9f\x01\xff\xff", Ok(Is(Ended(Some(1), None, None))), b"\xff"),
-};
-
 /// What stands on both sides of an item that may be rejected.
 #[derive(Debug, PartialEq, Drop)]
 struct GoesOn(Option<u8>, bool, Option<u8>, Option<u8>);
-
-impl Take for GoesOn {
-    fn take<S: Source>(
-        alloc: Global,
-        de: &mut Deserializer<S>,
-    ) -> Result<GoesOn, DecodeError<S::Error>> {
-        let mut items = de.deserialize_tuple(3)?;
-        let first = items.next_element(alloc)?;
-        let is_rejected = match items.next_element::<u8>(alloc) {
-            Ok(_) => false,
-            Err(DecodeError::Core(core_error::DecodeError::Mismatch { .. })) => true,
-            Err(error) => return Err(error),
-        };
-        let third = items.next_element(alloc)?;
-        Ok(GoesOn(first, is_rejected, third, items.next_element(alloc)?))
-    }
-}
-
-const GOES_ON: &[Row<Answer<GoesOn>>] = table! {
-    (b"\x83\x01\x20\x03", Ok(Is(GoesOn(Some(1), true, Some(3), None))), b""),
-};
 
 /// The first item of an array, which is read from what the accessor lends, and whether another one
 /// comes after it.
 #[derive(Debug, PartialEq, Drop)]
 struct Lent(bool, u8, bool);
 
-impl Take for Lent {
-    fn take<S: Source>(
-        alloc: Global,
-        de: &mut Deserializer<S>,
-    ) -> Result<Lent, DecodeError<S::Error>> {
-        let mut items = de.deserialize_seq()?;
-        let starts = items.starts_element()?;
-        let first = u8::deserialize(alloc, items.deserializer())?;
-        Ok(Lent(starts, first, items.starts_element()?))
-    }
-}
-
-const LENT: &[Row<Answer<Lent>>] = table! {
-    (b"\x81\x05\xff", Ok(Is(Lent(true, 5, false))), b"\xff"),
-    (b"\x82\x05\x06", Ok(Is(Lent(true, 5, true))), b"\x06"),
-    (b"\x9f\x05\xff\x06", Ok(Is(Lent(true, 5, false))), b"\x06"),
-    (b"\x9f\x05", Err(eof!("break", 1)), b""),
-};
-
-#[test]
-fn what_an_accessor_lends(rt: HostRuntime) -> Result<(), Fail> {
-    reads_all(rt.alloc(), LENT, &[])
-}
-
 /// A struct without names that was opened and not read.
 #[derive(Debug, PartialEq, Drop)]
 struct TupleStruct;
-
-impl Take for TupleStruct {
-    fn take<S: Source>(
-        alloc: Global,
-        de: &mut Deserializer<S>,
-    ) -> Result<TupleStruct, DecodeError<S::Error>> {
-        de.deserialize_tuple_struct("Pair", 2)?;
-        Ok(TupleStruct)
-    }
-}
-
-const TUPLE_STRUCTS: &[Row<Answer<TupleStruct>>] = table! {
-    (b"\x82\x01\x02", Ok(Is(TupleStruct)), b"\x01\x02"),
-};
-
-#[test]
-fn what_an_accessor_answers_later(rt: HostRuntime) -> Result<(), Fail> {
-    let alloc = rt.alloc();
-    reads_all(alloc, ENDED, &[])?;
-    reads_all(alloc, GOES_ON, &[])?;
-    reads_all(alloc, TUPLE_STRUCTS, &[])
-}
 
 /// The pairs of a map, in both ways, and what follows them.
 #[derive(Debug, PartialEq, Drop)]
@@ -198,65 +74,9 @@ struct Entries(
     Option<usize>,
 );
 
-impl Take for Entries {
-    fn take<S: Source>(
-        alloc: Global,
-        de: &mut Deserializer<S>,
-    ) -> Result<Entries, DecodeError<S::Error>> {
-        let mut entries = de.deserialize_map()?;
-        let first = entries.next_entry(alloc)?;
-        let key = entries.next_key(alloc)?;
-        let value = entries.next_value(alloc)?;
-        let end = entries.next_entry(alloc)?;
-        Ok(Entries(first, key, value, end, entries.size_hint()))
-    }
-}
-
-// Of a map of an indefinite and of definite length.
-const INDEFINITE: Answer<Entries> = Is(Entries(Some((1, 2)), Some(3), 4, None, None));
-
-const DEFINITE: Answer<Entries> = Is(Entries(Some((1, 2)), Some(3), 4, None, Some(0)));
-
-const ENTRIES: &[Row<Answer<Entries>>] = table! {
-    (b"\xbf\x01\x02\x03\x04\xff", Ok(INDEFINITE), b""),
-    (b"\xa2\x01\x02\x03\x04\xff", Ok(DEFINITE), b"\xff"),
-    (b"\x80", Err(mismatch!("map", 0x80)), b""),
-};
-
 /// A struct of one field, y, read pair by pair; others are skipped.
 #[derive(Debug, PartialEq, Drop)]
 struct Y(Option<u8>);
-
-impl Take for Y {
-    fn take<S: Source>(
-        alloc: Global,
-        de: &mut Deserializer<S>,
-    ) -> Result<Y, DecodeError<S::Error>> {
-        let mut y = None;
-        let mut fields = de.deserialize_struct("Struct", &["y"])?;
-        for _ in 0..3 {
-            match fields.next_key::<String>(alloc)? {
-                Some(key) => {
-                    if key.as_str() == "y" {
-                        y = Some(fields.next_value::<u8>(alloc)?);
-                    } else {
-                        fields.next_value::<IgnoredAny>(alloc)?;
-                    }
-                }
-                None => break,
-            }
-        }
-        Ok(Y(y))
-    }
-}
-
-const YS: &[Row<Answer<Y>>] = table! {
-    (b"\xbf\x61x\x9f\x01\xff\x61y\x02\xff", Ok(Is(Y(Some(2)))), b""),
-    (b"\xa2\x61y\x02\x61x\x80\xff", Ok(Is(Y(Some(2)))), b"\xff"),
-    (b"\xa1\x61x\x80", Ok(Is(Y(None))), b""),
-    (b"\xa1\x61y\x20", Err(mismatch!("u8", 0x20)), b""),
-    (b"\xa1\x05\x20", Err(mismatch!("str", 0x05)), b"\x20"),
-};
 
 /// A struct of two fields, which come in any order, and no other.
 #[derive(Debug, PartialEq, Drop)]
@@ -282,37 +102,133 @@ impl Both {
     }
 }
 
-impl Take for Both {
-    fn take<S: Source>(
+/// The calls of these names.
+struct Parts;
+
+impl TypedCalls for Parts {
+    fn make<S: Source>(
+        name: &str,
         alloc: Global,
         de: &mut Deserializer<S>,
-    ) -> Result<Both, DecodeError<S::Error>> {
-        let mut x = None;
-        let mut y = None;
-        let mut fields = de.deserialize_struct("Struct", &["x", "y"])?;
-        for _ in 0..2 {
-            if !Both::read_field(alloc, &mut fields, &mut x, &mut y)? {
-                break;
+    ) -> Result<String, DecodeError<S::Error>> {
+        match name {
+            "first" => {
+                let mut items = de.deserialize_seq()?;
+                let before = items.size_hint();
+                let first = items.next_element(alloc)?;
+                shows(alloc, First(before, first, items.size_hint()))
             }
-        }
-        match (x, y) {
-            (Some(x), Some(y)) => Ok(Both(x, y)),
-            _ => Err(DecodeError::Custom("a missing field")),
+            "dropped" => {
+                de.deserialize_seq()?;
+                shows(alloc, Dropped)
+            }
+            "ended" => {
+                let mut items = de.deserialize_seq()?;
+                let first = items.next_element(alloc)?;
+                let second = items.next_element(alloc)?;
+                shows(alloc, Ended(first, second, items.next_element(alloc)?))
+            }
+            "goes on" => {
+                let mut items = de.deserialize_tuple(3)?;
+                let first = items.next_element(alloc)?;
+                let is_rejected = match items.next_element::<u8>(alloc) {
+                    Ok(_) => false,
+                    Err(DecodeError::Core(core_error::DecodeError::Mismatch { .. })) => true,
+                    Err(error) => return Err(error),
+                };
+                let third = items.next_element(alloc)?;
+                shows(
+                    alloc,
+                    GoesOn(first, is_rejected, third, items.next_element(alloc)?),
+                )
+            }
+            "lent" => {
+                let mut items = de.deserialize_seq()?;
+                let starts = items.starts_element()?;
+                let first = u8::deserialize(alloc, items.deserializer())?;
+                shows(alloc, Lent(starts, first, items.starts_element()?))
+            }
+            "tuple struct" => {
+                de.deserialize_tuple_struct("Pair", 2)?;
+                shows(alloc, TupleStruct)
+            }
+            "entries" => {
+                let mut entries = de.deserialize_map()?;
+                let first = entries.next_entry(alloc)?;
+                let key = entries.next_key(alloc)?;
+                let value = entries.next_value(alloc)?;
+                let end = entries.next_entry(alloc)?;
+                shows(alloc, Entries(first, key, value, end, entries.size_hint()))
+            }
+            "y" => {
+                let mut y = None;
+                let mut fields = de.deserialize_struct("Struct", &["y"])?;
+                for _ in 0..3 {
+                    match fields.next_key::<String>(alloc)? {
+                        Some(key) => {
+                            if key.as_str() == "y" {
+                                y = Some(fields.next_value::<u8>(alloc)?);
+                            } else {
+                                fields.next_value::<IgnoredAny>(alloc)?;
+                            }
+                        }
+                        None => break,
+                    }
+                }
+                shows(alloc, Y(y))
+            }
+            "both" => {
+                let mut x = None;
+                let mut y = None;
+                let mut fields = de.deserialize_struct("Struct", &["x", "y"])?;
+                for _ in 0..2 {
+                    if !Both::read_field(alloc, &mut fields, &mut x, &mut y)? {
+                        break;
+                    }
+                }
+                match (x, y) {
+                    (Some(x), Some(y)) => shows(alloc, Both(x, y)),
+                    _ => Err(DecodeError::Custom("a missing field")),
+                }
+            }
+            _ => no_call(),
         }
     }
 }
 
-const BOTHS: &[Row<Answer<Both>>] = table! {
-    (b"\xa2\x61x\x18\x99\x61y\x38\x98", Ok(Is(Both(0x99, -0x99))), b""),
-    (b"\xa2\x61y\x38\x98\x61x\x18\x99\xff", Ok(Is(Both(0x99, -0x99))), b"\xff"),
-    (b"\xa1\x61x\x01", Ok(Custom("a missing field")), b""),
-    (b"\xa1\x61z\x01", Ok(Custom("another field")), b"\x01"),
+const READ: &[Called] = table! {
+    ("first", b"\x82\x01\x02", Ok("First(Some(2), Some(1), Some(1))"), b"\x02"),
+    ("first", b"\x9f\x01\x02\xff", Ok("First(None, Some(1), None)"), b"\x02\xff"),
+    ("first", b"\x9f\xff\x01", Ok("First(None, None, None)"), b"\x01"),
+    ("ended", b"\x81\x01\xff", Ok("Ended(Some(1), None, None)"), b"\xff"),
+    ("ended", b"\x9f\x01\xff\xff", Ok("Ended(Some(1), None, None)"), b"\xff"),
+    ("goes on", b"\x83\x01\x20\x03", Ok("GoesOn(Some(1), true, Some(3), None)"), b""),
+    ("lent", b"\x81\x05\xff", Ok("Lent(true, 5, false)"), b"\xff"),
+    ("lent", b"\x82\x05\x06", Ok("Lent(true, 5, true)"), b"\x06"),
+    ("lent", b"\x9f\x05\xff\x06", Ok("Lent(true, 5, false)"), b"\x06"),
+    ("lent", b"\x9f\x05", Err(eof!("break", 1)), b""),
+    ("tuple struct", b"\x82\x01\x02", Ok("TupleStruct"), b"\x01\x02"),
+    ("entries", b"\xbf\x01\x02\x03\x04\xff", Ok("Entries(Some((1, 2)), Some(3), 4, None, None)"),
+        b""),
+    ("entries", b"\xa2\x01\x02\x03\x04\xff", Ok("Entries(Some((1, 2)), Some(3), 4, None, Some(0))"),
+        b"\xff"),
+    ("entries", b"\x80", Err(mismatch!("map", 0x80)), b""),
+    ("y", b"\xbf\x61x\x9f\x01\xff\x61y\x02\xff", Ok("Y(Some(2))"), b""),
+    ("y", b"\xa2\x61y\x02\x61x\x80\xff", Ok("Y(Some(2))"), b"\xff"),
+    ("y", b"\xa1\x61x\x80", Ok("Y(None)"), b""),
+    ("y", b"\xa1\x61y\x20", Err(mismatch!("u8", 0x20)), b""),
+    ("y", b"\xa1\x05\x20", Err(mismatch!("str", 0x05)), b"\x20"),
+    ("both", b"\xa2\x61x\x18\x99\x61y\x38\x98", Ok("Both(153, -153)"), b""),
+    ("both", b"\xa2\x61y\x38\x98\x61x\x18\x99\xff", Ok("Both(153, -153)"), b"\xff"),
+    ("both", b"\xa1\x61x\x01", Ok("Custom(\"a missing field\")"), b""),
+    ("both", b"\xa1\x61z\x01", Ok("Custom(\"another field\")"), b"\x01"),
+};
+
+const WITHIN: &[CalledWithin] = table! {
+    ("dropped", b"\x81\x80", 1, Ok("Dropped"), b"\x80"),
 };
 
 #[test]
-fn entries_of_maps_and_structs(rt: HostRuntime) -> Result<(), Fail> {
-    let alloc = rt.alloc();
-    reads_all(alloc, ENTRIES, &[])?;
-    reads_all(alloc, YS, &[])?;
-    reads_all(alloc, BOTHS, &[])
+fn parts_of_arrays_and_maps(rt: HostRuntime) -> Result<(), Fail> {
+    calls::<Parts>(rt.alloc(), READ, WITHIN)
 }

@@ -14,16 +14,14 @@
 //! Where the reader lets a look ask for more, a head takes one look, as does a name of up to 255
 //! bytes after a head of one or two bytes. A vector of four leaves or more takes one for as many as
 //! it shows whole, and one for the next, by turns.
-use crate::typed::Answer;
-use cbor4ii::Value;
-use cbor4ii::types::F64;
-use cbor4ii_vectors::asked::{looks_at_most, looks_within_windows};
+use crate::typed::By;
+use crate::values::Types;
+use cbor4ii_vectors::asked::{looks_at_most_by, looks_within_windows_by};
 use cbor4ii_vectors::readers::Asked;
 use cbor4ii_vectors::repeated::repeated;
-use cbor4ii_vectors::rows::ReadFrom;
+use cbor4ii_vectors::rows::{ByName, Calls};
 use cbor4ii_vectors::table;
 use std::alloc::Global;
-use std::collections::BTreeMap;
 use std::test::Fail;
 
 /// A head, a part that follows it so many times, and an end; the most bytes that a look wants; the
@@ -42,41 +40,45 @@ pub type Row = (
 /// Reads each row over readers that fail where more bytes are wanted than the row says, or than the
 /// window that they let a look ask for. The first two have to have had no byte that is not the
 /// item's. A wider window takes no more looks than they do.
-pub fn asks_rows<A: ReadFrom + Drop>(alloc: Global, rows: &[Row]) -> Result<(), Fail> {
+pub fn asks_rows<C: Calls>(alloc: Global, name: &str, rows: &[Row]) -> Result<(), Fail> {
+    let how = ByName::<C>::new(alloc, name)?;
     for &(head, part, count, end, most, (looks, by_byte), wide) in rows {
         let bytes = repeated(alloc, head, part, count, end)?;
         let reader = Asked::new(bytes).refusing_above(most);
-        looks_at_most::<A>(alloc, reader, bytes, true, looks, bytes.len())?;
+        looks_at_most_by::<String, _>(&how, alloc, reader, bytes, true, looks, bytes.len())?;
         let reader = Asked::new(bytes).refusing_above(most).showing(1);
-        looks_at_most::<A>(alloc, reader, bytes, true, by_byte, bytes.len())?;
-        looks_within_windows::<A>(alloc, bytes, true, most, (looks, by_byte))?;
-        asks_wide::<A>(alloc, bytes, wide)?;
+        looks_at_most_by::<String, _>(&how, alloc, reader, bytes, true, by_byte, bytes.len())?;
+        looks_within_windows_by::<String, _>(&how, alloc, bytes, true, most, (looks, by_byte))?;
+        asks_wide(&how, alloc, bytes, wide)?;
     }
     Ok(())
 }
 
-fn asks_wide<A: ReadFrom + Drop>(
+fn asks_wide<C: Calls>(
+    how: &ByName<C>,
     alloc: Global,
     bytes: &[u8],
     (looks, by_byte): (usize, usize),
 ) -> Result<(), Fail> {
     let reader = Asked::new(bytes).wide().refusing_above(4_096);
-    looks_at_most::<A>(alloc, reader, bytes, true, looks, usize::MAX)?;
+    looks_at_most_by::<String, _>(how, alloc, reader, bytes, true, looks, usize::MAX)?;
     let reader = Asked::new(bytes).wide().refusing_above(4_096).showing(1);
-    looks_at_most::<A>(alloc, reader, bytes, true, by_byte, usize::MAX)
+    looks_at_most_by::<String, _>(how, alloc, reader, bytes, true, by_byte, usize::MAX)
 }
 
 /// Over a reader that lets a look ask for 4,096 bytes no look wants more than `most`, or than the
 /// row says.
-pub fn asks_no_more_than<A: ReadFrom + Drop>(
+pub fn asks_no_more_than<C: Calls>(
     alloc: Global,
+    name: &str,
     most: usize,
     rows: &[Row],
 ) -> Result<(), Fail> {
+    let how = ByName::<C>::new(alloc, name)?;
     for &(head, part, count, end, needed, _, (looks, _)) in rows {
         let bytes = repeated(alloc, head, part, count, end)?;
         let reader = Asked::new(bytes).wide().refusing_above(most.max(needed));
-        looks_at_most::<A>(alloc, reader, bytes, true, looks, usize::MAX)?;
+        looks_at_most_by::<String, _>(&how, alloc, reader, bytes, true, looks, usize::MAX)?;
     }
     Ok(())
 }
@@ -100,9 +102,9 @@ const TEXTS: &[Row] = table! {
 #[test]
 fn leaves_are_asked_for(rt: HostRuntime) -> Result<(), Fail> {
     let alloc = rt.alloc();
-    asks_rows::<Answer<u8>>(alloc, NUMBERS)?;
-    asks_rows::<Answer<F64>>(alloc, FLOATS)?;
-    asks_rows::<Answer<String>>(alloc, TEXTS)
+    asks_rows::<By<Types>>(alloc, "u8", NUMBERS)?;
+    asks_rows::<By<Types>>(alloc, "F64", FLOATS)?;
+    asks_rows::<By<Types>>(alloc, "String", TEXTS)
 }
 
 const OPTIONS: &[Row] = table! {
@@ -134,10 +136,10 @@ const ANY: &[Row] = table! {
 #[test]
 fn containers_are_asked_for(rt: HostRuntime) -> Result<(), Fail> {
     let alloc = rt.alloc();
-    asks_rows::<Answer<Option<u8>>>(alloc, OPTIONS)?;
-    asks_rows::<Answer<Vec<u8>>>(alloc, VECTORS)?;
-    asks_rows::<Answer<BTreeMap<u8, u8>>>(alloc, MAPS)?;
-    asks_rows::<Answer<Value>>(alloc, ANY)
+    asks_rows::<By<Types>>(alloc, "Option<u8>", OPTIONS)?;
+    asks_rows::<By<Types>>(alloc, "Vec<u8>", VECTORS)?;
+    asks_rows::<By<Types>>(alloc, "BTreeMap<u8, u8>", MAPS)?;
+    asks_rows::<By<Types>>(alloc, "Value", ANY)
 }
 
 // Vectors of four leaves: the window, and the most looks over a reader that shows what is wanted.
@@ -156,12 +158,13 @@ const LEAVES: &[Windowed] = table! {
 };
 
 fn asks_windowed(alloc: Global, rows: &[Windowed]) -> Result<(), Fail> {
+    let how = ByName::<By<Types>>::new(alloc, "Vec<u64>")?;
     for &(head, leaf, window, looks) in rows {
         let bytes = repeated(alloc, head, leaf, 4, b"")?;
         let reader = Asked::new(bytes)
             .with_window(window)
             .refusing_above(window.max(9));
-        looks_at_most::<Answer<Vec<u64>>>(alloc, reader, bytes, true, looks, usize::MAX)?;
+        looks_at_most_by::<String, _>(&how, alloc, reader, bytes, true, looks, usize::MAX)?;
     }
     Ok(())
 }
@@ -177,5 +180,6 @@ fn options_of_options_take_no_look_in_vain(rt: HostRuntime) -> Result<(), Fail> 
     let alloc = rt.alloc();
     let bytes = repeated(alloc, b"\x99\x03\xe8", b"\x05", 1_000, b"")?;
     let reader = Asked::new(bytes).wide().refusing_above(4_096);
-    looks_at_most::<Answer<Vec<Option<Option<u8>>>>>(alloc, reader, bytes, true, 3_001, usize::MAX)
+    let how = ByName::<By<Types>>::new(alloc, "Vec<Option<Option<u8>>>")?;
+    looks_at_most_by::<String, _>(&how, alloc, reader, bytes, true, 3_001, usize::MAX)
 }

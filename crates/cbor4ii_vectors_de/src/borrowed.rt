@@ -1,4 +1,5 @@
-//! Rows of strings that are borrowed from the input, and rejected where they are not lent.
+//! Rows of strings that are borrowed from the input where the reader lends them: they are owned
+//! otherwise, or rejected.
 use crate::lent_strings::{Kind, reads_byte_strings, reads_texts};
 use crate::typed::{comes_back_lent, is_rejected};
 use cbor4ii::serde::{DecodeError, from_reader, from_slice};
@@ -7,25 +8,36 @@ use cbor4ii_rw::error as core_error;
 use cbor4ii_vectors::require_borrowed;
 use cbor4ii_vectors::streams::FailingStream;
 use std::alloc::Global;
+use std::borrow::CowStr;
 use std::io::{self, BufRead, ErrorKind};
 use std::test::Fail;
 
 #[test]
 fn texts(rt: HostRuntime) -> Result<(), Fail> {
-    reads_texts(&[Kind::BorrowedText], rt.alloc())
+    reads_texts(TEXTS, rt.alloc())
 }
 
 #[test]
 fn byte_strings(rt: HostRuntime) -> Result<(), Fail> {
-    reads_byte_strings(&[Kind::BorrowedBytes], rt.alloc())
+    reads_byte_strings(BYTE_STRINGS, rt.alloc())
 }
 
-// A text and a byte string that are parts of bytes which the test makes.
+const TEXTS: &[Kind] = &[
+    Kind::Text,
+    Kind::TextByName,
+    Kind::Identifier,
+    Kind::BorrowedText,
+];
+
+const BYTE_STRINGS: &[Kind] = &[Kind::Bytes, Kind::BytesByName, Kind::BorrowedBytes];
+
+// Texts and a byte string that are parts of bytes which the test makes.
 #[test]
 fn strings_that_are_lent_come_back(rt: HostRuntime) -> Result<(), Fail> {
     let alloc = rt.alloc();
     let text = Vec::from_slice(alloc, b"\x63123")?;
     comes_back_lent::<&[u8], &str>(alloc, &text, &text, "\"123\"")?;
+    comes_back_lent::<&[u8], CowStr<'_, Global>>(alloc, &text, &text, "\"123\"")?;
     let bytes = Vec::from_slice(alloc, b"\x43123")?;
     comes_back_lent::<&[u8], Bytes<&[u8]>>(alloc, &bytes, &bytes, "Bytes([49, 50, 51])")
 }

@@ -3,8 +3,9 @@ ghost use Rattle.std.specs.Prelude.{◌∷◌, []};
 ghost use Rattle.cbor4ii_ser.specs.Item.{tuple_encoding};
 
 use crate::typed::{
-    Answer, BothShown, Rejected, RowShown, RowShownWithin, Take, rejects, tries_shown,
+    Answer, BothShown, Rejected, RowShown, RowShownWithin, Take, calls, rejects, tries_shown,
 };
+use crate::values::Types;
 use cbor4ii::serde::{DecodeError, Deserializer, EncodeError, Serialize, Serializer};
 use cbor4ii_rw::read::Source;
 use cbor4ii_rw::write::Write;
@@ -156,7 +157,10 @@ fn two_elements_and_a_pair(rt: HostRuntime) -> Result<(), Fail> {
     let alloc = rt.alloc();
     tries_shown::<Answer<Two>>(alloc, TWO, TWO_READ, TWO_WITHIN)?;
     rejects::<Answer<Two>>(alloc, TWO_REJECTED)?;
-    rejects::<Answer<(u8, u8)>>(alloc, TWO_REJECTED)
+    for &(bytes, rejection, rest) in TWO_REJECTED {
+        calls::<Types>(alloc, &[("(u8, u8)", bytes, Err(rejection), rest)], &[])?;
+    }
+    Ok(())
 }
 
 const THREE: &[BothShown] = table! {

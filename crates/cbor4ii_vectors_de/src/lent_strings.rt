@@ -46,27 +46,35 @@ fn content(text: CowStr<'static, Global>) -> CowSlice<'static, u8, Global> {
     }
 }
 
+/// The string that is read so. It stands once for the readers that lend what they lend in
+/// different ways.
+macro_rules! read_as {
+    ($kind:ident, $alloc:ident, $de:ident) => {
+        match $kind {
+            Kind::Text => Ok(content(CowStr::deserialize($alloc, $de)?)),
+            Kind::TextByName => Ok(content($de.deserialize_str($alloc)?)),
+            Kind::Identifier => Ok(content($de.deserialize_identifier($alloc)?)),
+            Kind::BorrowedText => {
+                let text = <&'static str>::deserialize($alloc, $de)?;
+                Ok(CowSlice::Borrowed(text.as_bytes()))
+            }
+            Kind::Bytes => Ok(<Bytes<CowSlice<'static, u8, Global>>>::deserialize($alloc, $de)?.0),
+            Kind::BytesByName => $de.deserialize_bytes($alloc),
+            Kind::BorrowedBytes => {
+                let bytes = <Bytes<&'static [u8]>>::deserialize($alloc, $de)?;
+                Ok(CowSlice::Borrowed(bytes.0))
+            }
+        }
+    };
+}
+
 impl Strings for SliceReader<'static> {
     fn string(
         kind: Kind,
         alloc: Global,
         de: &mut Deserializer<SliceReader<'static>>,
     ) -> Result<CowSlice<'static, u8, Global>, DecodeError<Never>> {
-        match kind {
-            Kind::Text => Ok(content(CowStr::deserialize(alloc, de)?)),
-            Kind::TextByName => Ok(content(de.deserialize_str(alloc)?)),
-            Kind::Identifier => Ok(content(de.deserialize_identifier(alloc)?)),
-            Kind::BorrowedText => {
-                let text = <&'static str>::deserialize(alloc, de)?;
-                Ok(CowSlice::Borrowed(text.as_bytes()))
-            }
-            Kind::Bytes => Ok(<Bytes<CowSlice<'static, u8, Global>>>::deserialize(alloc, de)?.0),
-            Kind::BytesByName => de.deserialize_bytes(alloc),
-            Kind::BorrowedBytes => {
-                let bytes = <Bytes<&'static [u8]>>::deserialize(alloc, de)?;
-                Ok(CowSlice::Borrowed(bytes.0))
-            }
-        }
+        read_as!(kind, alloc, de)
     }
 }
 
@@ -76,21 +84,7 @@ impl Strings for SegmentReader<'static> {
         alloc: Global,
         de: &mut Deserializer<SegmentReader<'static>>,
     ) -> Result<CowSlice<'static, u8, Global>, DecodeError<Never>> {
-        match kind {
-            Kind::Text => Ok(content(CowStr::deserialize(alloc, de)?)),
-            Kind::TextByName => Ok(content(de.deserialize_str(alloc)?)),
-            Kind::Identifier => Ok(content(de.deserialize_identifier(alloc)?)),
-            Kind::BorrowedText => {
-                let text = <&'static str>::deserialize(alloc, de)?;
-                Ok(CowSlice::Borrowed(text.as_bytes()))
-            }
-            Kind::Bytes => Ok(<Bytes<CowSlice<'static, u8, Global>>>::deserialize(alloc, de)?.0),
-            Kind::BytesByName => de.deserialize_bytes(alloc),
-            Kind::BorrowedBytes => {
-                let bytes = <Bytes<&'static [u8]>>::deserialize(alloc, de)?;
-                Ok(CowSlice::Borrowed(bytes.0))
-            }
-        }
+        read_as!(kind, alloc, de)
     }
 }
 
@@ -100,21 +94,7 @@ impl Strings for IoReader<FailingStream<'static>> {
         alloc: Global,
         de: &mut Deserializer<IoReader<FailingStream<'static>>>,
     ) -> Result<CowSlice<'static, u8, Global>, DecodeError<io::Error>> {
-        match kind {
-            Kind::Text => Ok(content(CowStr::deserialize(alloc, de)?)),
-            Kind::TextByName => Ok(content(de.deserialize_str(alloc)?)),
-            Kind::Identifier => Ok(content(de.deserialize_identifier(alloc)?)),
-            Kind::BorrowedText => {
-                let text = <&'static str>::deserialize(alloc, de)?;
-                Ok(CowSlice::Borrowed(text.as_bytes()))
-            }
-            Kind::Bytes => Ok(<Bytes<CowSlice<'static, u8, Global>>>::deserialize(alloc, de)?.0),
-            Kind::BytesByName => de.deserialize_bytes(alloc),
-            Kind::BorrowedBytes => {
-                let bytes = <Bytes<&'static [u8]>>::deserialize(alloc, de)?;
-                Ok(CowSlice::Borrowed(bytes.0))
-            }
-        }
+        read_as!(kind, alloc, de)
     }
 }
 

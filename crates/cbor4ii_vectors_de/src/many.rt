@@ -3,8 +3,7 @@
 ghost use Rattle.std.specs.Prelude.{◌≡◌, None};
 ghost use Rattle.std.proofs.Common.{refl};
 
-use crate::typed::Answer::Is;
-use crate::typed::Take;
+use crate::typed::{By, TypedCalls, no_call, shows};
 use cbor4ii::Value;
 use cbor4ii::serde::laws::tested_values_are_rejected_once;
 use cbor4ii::serde::{
@@ -12,12 +11,13 @@ use cbor4ii::serde::{
     from_reader, from_slice, from_slice_whole, from_slice_whole_at,
 };
 use cbor4ii::types::Bytes;
+use cbor4ii_rw::error as core_error;
 use cbor4ii_rw::error::Never;
 use cbor4ii_rw::read::Source;
 use cbor4ii_vectors::repeated::repeated;
-use cbor4ii_vectors::rows::{ReadFrom, reads_around_a_look};
+use cbor4ii_vectors::rows::call_around_a_look;
+use cbor4ii_vectors::table;
 use std::alloc::{AllocError, Global};
-use std::fmt::Debug;
 use std::test::Fail;
 
 /// Numbers, and a byte string.
@@ -72,132 +72,163 @@ impl CheckedFrom<Many> for Read {
     ghost fate = { λ v w same. refl };
 }
 
-fn reads<A: ReadFrom + PartialEq + Debug + Drop>(
+/// Whether these values are equal.
+fn same<T: PartialEq + Drop, E>(
     alloc: Global,
-    before: &[u8],
-    value: A,
-) -> Result<(), Fail> {
-    reads_around_a_look(alloc, many_after(alloc, before)?, &Ok(value))
-}
-
-/// By `deserialize_from`.
-#[derive(Debug, PartialEq, Drop)]
-struct ByFrom(Read);
-
-impl Take for ByFrom {
-    fn take<S: Source>(
-        alloc: Global,
-        de: &mut Deserializer<S>,
-    ) -> Result<ByFrom, DecodeError<S::Error>> {
-        Ok(ByFrom(de.deserialize_from::<Many, Read>(alloc)?))
+    value: &T,
+    want: Result<T, AllocError>,
+) -> Result<String, DecodeError<E>> {
+    match want {
+        Ok(want) => shows(alloc, *value == want),
+        Err(_) => Err(DecodeError::Core(core_error::DecodeError::OutOfMemory)),
     }
 }
 
-/// By `deserialize_checked`.
-#[derive(Debug, PartialEq, Drop)]
-struct ByTest(Read);
+/// Calls that take memory for the value: whether it is what was read.
+struct Calls;
 
-impl Take for ByTest {
-    fn take<S: Source>(
+impl TypedCalls for Calls {
+    fn make<S: Source>(
+        name: &str,
         alloc: Global,
         de: &mut Deserializer<S>,
-    ) -> Result<ByTest, DecodeError<S::Error>> {
-        Ok(ByTest(de.deserialize_checked::<Many, Read>(alloc)?))
+    ) -> Result<String, DecodeError<S::Error>> {
+        match name {
+            "deserialize_from" => {
+                let read: Read = de.deserialize_from::<Many, Read>(alloc)?;
+                same(alloc, &read.0, many(alloc))
+            }
+            "deserialize_checked" => {
+                let read: Read = de.deserialize_checked::<Many, Read>(alloc)?;
+                same(alloc, &read.0, many(alloc))
+            }
+            "deserialize_tagged" => {
+                let read: Read = de.deserialize_tagged::<Many, Read>(alloc, 24)?;
+                same(alloc, &read.0, many(alloc))
+            }
+            "deserialize_newtype_struct" => {
+                let read: Many = de.deserialize_newtype_struct(alloc, "Many")?;
+                same(alloc, &read, many(alloc))
+            }
+            "deserialize_option" => {
+                let read: Option<Many> = de.deserialize_option()?.value(alloc)?;
+                same(alloc, &read, some(many(alloc)))
+            }
+            "deserialize_ignored_any" => shows(alloc, de.deserialize_ignored_any(alloc)?),
+            "deserialize_any and deserialize_item" => {
+                let mut items = de.deserialize_seq()?;
+                let any: Value = items.deserializer().deserialize_any(alloc)?;
+                let item: Value = items.deserializer().deserialize_item(alloc)?;
+                same(alloc, &(any, item), items_of_many(alloc))
+            }
+            "deserialize_string and deserialize_byte_buf" => {
+                let text: String = de.deserialize_string(alloc)?;
+                let bytes: Vec<u8> = de.deserialize_byte_buf(alloc)?;
+                same(alloc, &(text.into_bytes(), bytes), letters(alloc))
+            }
+            _ => of_parts(name, alloc, de),
+        }
     }
 }
 
-/// By `deserialize_tagged`.
-#[derive(Debug, PartialEq, Drop)]
-struct ByTag(Read);
-
-impl Take for ByTag {
-    fn take<S: Source>(
-        alloc: Global,
-        de: &mut Deserializer<S>,
-    ) -> Result<ByTag, DecodeError<S::Error>> {
-        Ok(ByTag(de.deserialize_tagged::<Many, Read>(alloc, 24)?))
+/// Calls for structs and enums.
+fn of_parts<S: Source>(
+    name: &str,
+    alloc: Global,
+    de: &mut Deserializer<S>,
+) -> Result<String, DecodeError<S::Error>> {
+    match name {
+        "deserialize_elements" => {
+            let read: Read = de.deserialize_elements::<Many, (), Read>(alloc)?;
+            same(alloc, &read.0, many(alloc))
+        }
+        "deserialize_fields by a name" => {
+            let presences = (Required, ());
+            let read: Read = de.deserialize_fields(alloc, "Many", &["a"], &["no a"], presences)?;
+            same(alloc, &read.0, many(alloc))
+        }
+        "deserialize_fields by a key" => {
+            let presences = (Required, ());
+            let read: Read = de.deserialize_fields(alloc, "Many", &[1], &["no 1"], presences)?;
+            same(alloc, &read.0, many(alloc))
+        }
+        "deserialize_variant" => {
+            let cases = (Holds, Otherwise("no such variant"));
+            let read: Read = de.deserialize_variant(alloc, "Many", &["A"], cases)?;
+            same(alloc, &read.0, many(alloc))
+        }
+        _ => by_accessor(name, alloc, de),
     }
 }
 
-/// By `deserialize_newtype_struct`.
-#[derive(Debug, PartialEq, Drop)]
-struct ByNewtype(Many);
-
-impl Take for ByNewtype {
-    fn take<S: Source>(
-        alloc: Global,
-        de: &mut Deserializer<S>,
-    ) -> Result<ByNewtype, DecodeError<S::Error>> {
-        Ok(ByNewtype(de.deserialize_newtype_struct(alloc, "Many")?))
+/// Calls of accessors.
+fn by_accessor<S: Source>(
+    name: &str,
+    alloc: Global,
+    de: &mut Deserializer<S>,
+) -> Result<String, DecodeError<S::Error>> {
+    match name {
+        "next_element" => {
+            let read: Option<Many> = de.deserialize_seq()?.next_element(alloc)?;
+            same(alloc, &read, some(many(alloc)))
+        }
+        "next_key" => {
+            let read: Option<Many> = de.deserialize_map()?.next_key(alloc)?;
+            same(alloc, &read, some(many(alloc)))
+        }
+        "next_value" => {
+            let mut entries = de.deserialize_map()?;
+            let key: Option<u8> = entries.next_key(alloc)?;
+            let read: Many = entries.next_value(alloc)?;
+            same(alloc, &(key, read), some_key(many(alloc)))
+        }
+        "next_entry" => {
+            let read: Option<(u8, Many)> = de.deserialize_map()?.next_entry(alloc)?;
+            same(alloc, &read, some_entry(many(alloc)))
+        }
+        "variant" => {
+            let read: Many = de.deserialize_enum("Enum", &["A"])?.variant(alloc)?;
+            same(alloc, &read, many(alloc))
+        }
+        "newtype_variant" => {
+            let mut variant = de.deserialize_enum("Enum", &["A"])?;
+            let name: String = variant.variant(alloc)?;
+            let read: Many = variant.newtype_variant(alloc)?;
+            if name.as_str() == "A" {
+                return same(alloc, &read, many(alloc));
+            }
+            shows(alloc, name)
+        }
+        _ => no_call(),
     }
 }
 
-/// By `deserialize_option`.
-#[derive(Debug, PartialEq, Drop)]
-struct ByOption(Option<Many>);
-
-impl Take for ByOption {
-    fn take<S: Source>(
-        alloc: Global,
-        de: &mut Deserializer<S>,
-    ) -> Result<ByOption, DecodeError<S::Error>> {
-        Ok(ByOption(de.deserialize_option()?.value(alloc)?))
-    }
+fn some(value: Result<Many, AllocError>) -> Result<Option<Many>, AllocError> {
+    Ok(Some(value?))
 }
 
-/// By `deserialize_elements`.
-#[derive(Debug, PartialEq, Drop)]
-struct ByElements(Read);
-
-impl Take for ByElements {
-    fn take<S: Source>(
-        alloc: Global,
-        de: &mut Deserializer<S>,
-    ) -> Result<ByElements, DecodeError<S::Error>> {
-        Ok(ByElements(de.deserialize_elements::<Many, (), Read>(alloc)?))
-    }
+fn some_key(value: Result<Many, AllocError>) -> Result<(Option<u8>, Many), AllocError> {
+    Ok((Some(1), value?))
 }
 
-/// By `deserialize_fields`.
-#[derive(Debug, PartialEq, Drop)]
-struct ByFields(Read);
-
-impl Take for ByFields {
-    fn take<S: Source>(
-        alloc: Global,
-        de: &mut Deserializer<S>,
-    ) -> Result<ByFields, DecodeError<S::Error>> {
-        let presences = (Required, ());
-        Ok(ByFields(de.deserialize_fields(alloc, "Many", &["a"], &["no a"], presences)?))
-    }
+fn some_entry(value: Result<Many, AllocError>) -> Result<Option<(u8, Many)>, AllocError> {
+    Ok(Some((1, value?)))
 }
 
-/// By `deserialize_fields`.
-#[derive(Debug, PartialEq, Drop)]
-struct ByKeys(Read);
-
-impl Take for ByKeys {
-    fn take<S: Source>(
-        alloc: Global,
-        de: &mut Deserializer<S>,
-    ) -> Result<ByKeys, DecodeError<S::Error>> {
-        let presences = (Required, ());
-        Ok(ByKeys(de.deserialize_fields(alloc, "Many", &[1], &["no 1"], presences)?))
+// The two parts of the value, each as an item.
+fn items_of_many(alloc: Global) -> Result<(Value, Value), AllocError> {
+    let mut items = Vec::new(alloc);
+    for _ in 0..5_000 {
+        items.push(Value::Integer(5))?;
     }
+    let bytes = vec![in alloc; b'a'; 100_000]?;
+    Ok((Value::Array(items), Value::Bytes(bytes)))
 }
 
-/// By `deserialize_variant`.
-#[derive(Debug, PartialEq, Drop)]
-struct ByCases(Read);
-
-impl Take for ByCases {
-    fn take<S: Source>(
-        alloc: Global,
-        de: &mut Deserializer<S>,
-    ) -> Result<ByCases, DecodeError<S::Error>> {
-        let cases = (Holds, Otherwise("no such variant"));
-        Ok(ByCases(de.deserialize_variant(alloc, "Many", &["A"], cases)?))
-    }
+// 100,000 letters, twice.
+fn letters(alloc: Global) -> Result<(Vec<u8>, Vec<u8>), AllocError> {
+    let text = vec![in alloc; b'a'; 100_000]?;
+    Ok((text, vec![in alloc; b'a'; 100_000]?))
 }
 
 #[test]
@@ -205,201 +236,59 @@ fn the_law_of_what_is_tested_is_called(rt: HostRuntime) {
     tested_values_are_rejected_once::<Many, Read>();
 }
 
+/// A call, what stands before the value's bytes, and the text of the answer.
+type CallOfMany = (&'static str, &'static [u8], &'static str);
+
+const CALLS: &[CallOfMany] = table! {
+    ("deserialize_from", b"", "true"),
+    ("deserialize_checked", b"", "true"),
+    ("deserialize_tagged", b"\xd8\x18", "true"),
+    ("deserialize_newtype_struct", b"", "true"),
+    ("deserialize_option", b"", "true"),
+    ("deserialize_elements", b"\x81", "true"),
+    ("deserialize_fields by a name", b"\xa1\x61a", "true"),
+    ("deserialize_fields by a key", b"\xa1\x01", "true"),
+    ("deserialize_variant", b"\xa1\x61A", "true"),
+    ("next_element", b"\x81", "true"),
+    ("next_key", b"\xa1", "true"),
+    ("next_value", b"\xa1\x01", "true"),
+    ("next_entry", b"\xa1\x01", "true"),
+    ("variant", b"\xa1", "true"),
+    ("newtype_variant", b"\xa1\x61A", "true"),
+    ("deserialize_any and deserialize_item", b"", "true"),
+    ("deserialize_ignored_any", b"", "()"),
+};
+
 #[test]
 fn by_one_call(rt: HostRuntime) -> Result<(), Fail> {
     let alloc = rt.alloc();
-    reads(alloc, b"", Is(ByFrom(Read(many(alloc)?))))?;
-    reads(alloc, b"", Is(ByTest(Read(many(alloc)?))))?;
-    reads(alloc, b"\xd8\x18", Is(ByTag(Read(many(alloc)?))))?;
-    reads(alloc, b"", Is(ByNewtype(many(alloc)?)))?;
-    reads(alloc, b"", Is(ByOption(Some(many(alloc)?))))
-}
-
-#[test]
-fn by_calls_for_structs_and_enums(rt: HostRuntime) -> Result<(), Fail> {
-    let alloc = rt.alloc();
-    reads(alloc, b"\x81", Is(ByElements(Read(many(alloc)?))))?;
-    reads(alloc, b"\xa1\x61a", Is(ByFields(Read(many(alloc)?))))?;
-    reads(alloc, b"\xa1\x01", Is(ByKeys(Read(many(alloc)?))))?;
-    reads(alloc, b"\xa1\x61A", Is(ByCases(Read(many(alloc)?))))
-}
-
-/// By `next_element`.
-#[derive(Debug, PartialEq, Drop)]
-struct ByElement(Option<Many>);
-
-impl Take for ByElement {
-    fn take<S: Source>(
-        alloc: Global,
-        de: &mut Deserializer<S>,
-    ) -> Result<ByElement, DecodeError<S::Error>> {
-        Ok(ByElement(de.deserialize_seq()?.next_element(alloc)?))
+    for (name, before, text) in CALLS {
+        call_around_a_look::<By<Calls>>(alloc, name, many_after(alloc, before)?, text)?;
     }
-}
-
-/// By `next_key`.
-#[derive(Debug, PartialEq, Drop)]
-struct ByKey(Option<Many>);
-
-impl Take for ByKey {
-    fn take<S: Source>(
-        alloc: Global,
-        de: &mut Deserializer<S>,
-    ) -> Result<ByKey, DecodeError<S::Error>> {
-        Ok(ByKey(de.deserialize_map()?.next_key(alloc)?))
-    }
-}
-
-/// By `next_value`, after the key.
-#[derive(Debug, PartialEq, Drop)]
-struct ByValue(Option<u8>, Many);
-
-impl Take for ByValue {
-    fn take<S: Source>(
-        alloc: Global,
-        de: &mut Deserializer<S>,
-    ) -> Result<ByValue, DecodeError<S::Error>> {
-        let mut entries = de.deserialize_map()?;
-        let key = entries.next_key(alloc)?;
-        Ok(ByValue(key, entries.next_value(alloc)?))
-    }
-}
-
-/// By `next_entry`.
-#[derive(Debug, PartialEq, Drop)]
-struct ByEntry(Option<(u8, Many)>);
-
-impl Take for ByEntry {
-    fn take<S: Source>(
-        alloc: Global,
-        de: &mut Deserializer<S>,
-    ) -> Result<ByEntry, DecodeError<S::Error>> {
-        Ok(ByEntry(de.deserialize_map()?.next_entry(alloc)?))
-    }
-}
-
-/// By `variant`, as the name.
-#[derive(Debug, PartialEq, Drop)]
-struct ByName(Many);
-
-impl Take for ByName {
-    fn take<S: Source>(
-        alloc: Global,
-        de: &mut Deserializer<S>,
-    ) -> Result<ByName, DecodeError<S::Error>> {
-        Ok(ByName(de.deserialize_enum("Enum", &["A"])?.variant(alloc)?))
-    }
-}
-
-/// By `newtype_variant`, after the name.
-#[derive(Debug, PartialEq, Drop)]
-struct ByContent(String, Many);
-
-impl Take for ByContent {
-    fn take<S: Source>(
-        alloc: Global,
-        de: &mut Deserializer<S>,
-    ) -> Result<ByContent, DecodeError<S::Error>> {
-        let mut variant = de.deserialize_enum("Enum", &["A"])?;
-        let name = variant.variant(alloc)?;
-        Ok(ByContent(name, variant.newtype_variant(alloc)?))
-    }
-}
-
-#[test]
-fn by_the_calls_of_accessors(rt: HostRuntime) -> Result<(), Fail> {
-    let alloc = rt.alloc();
-    reads(alloc, b"\x81", Is(ByElement(Some(many(alloc)?))))?;
-    reads(alloc, b"\xa1", Is(ByKey(Some(many(alloc)?))))?;
-    reads(alloc, b"\xa1\x01", Is(ByValue(Some(1), many(alloc)?)))?;
-    reads(alloc, b"\xa1\x01", Is(ByEntry(Some((1, many(alloc)?)))))?;
-    reads(alloc, b"\xa1", Is(ByName(many(alloc)?)))?;
-    let name = String::from_str(alloc, "A")?;
-    reads(alloc, b"\xa1\x61A", Is(ByContent(name, many(alloc)?)))
-}
-
-/// An item of any kind, and one of the codec.
-#[derive(Debug, PartialEq, Drop)]
-struct Items(Value, Value);
-
-impl Take for Items {
-    fn take<S: Source>(
-        alloc: Global,
-        de: &mut Deserializer<S>,
-    ) -> Result<Items, DecodeError<S::Error>> {
-        let mut items = de.deserialize_seq()?;
-        let any = items.deserializer().deserialize_any(alloc)?;
-        Ok(Items(any, items.deserializer().deserialize_item(alloc)?))
-    }
-}
-
-/// That it is skipped.
-#[derive(Debug, PartialEq, Drop)]
-struct Skipped;
-
-impl Take for Skipped {
-    fn take<S: Source>(
-        alloc: Global,
-        de: &mut Deserializer<S>,
-    ) -> Result<Skipped, DecodeError<S::Error>> {
-        de.deserialize_ignored_any(alloc)?;
-        Ok(Skipped)
-    }
-}
-
-fn numbers(alloc: Global) -> Result<Value, AllocError> {
-    let mut items = Vec::new(alloc);
-    for _ in 0..5_000 {
-        items.push(Value::Integer(5))?;
-    }
-    Ok(Value::Array(items))
-}
-
-#[test]
-fn by_calls_for_any_item(rt: HostRuntime) -> Result<(), Fail> {
-    let alloc = rt.alloc();
-    let bytes = Value::Bytes(vec![in alloc; b'a'; 100_000]?);
-    reads(alloc, b"", Is(Items(numbers(alloc)?, bytes)))?;
-    reads(alloc, b"", Is(Skipped))
+    Ok(())
 }
 
 #[test]
 fn by_calls_for_one_value(rt: HostRuntime) -> Result<(), Fail> {
     let alloc = rt.alloc();
     let bytes = many_after(alloc, b"")?;
-    is_many(alloc, from_slice(alloc, bytes)?)?;
-    is_many(alloc, from_slice_whole(alloc, bytes)?)?;
-    is_many(alloc, from_slice_whole_at(alloc, bytes)?)?;
-    is_many(alloc, from_reader(alloc, bytes)?)
+    is_read(alloc, from_slice(alloc, bytes)?)?;
+    is_read(alloc, from_slice_whole(alloc, bytes)?)?;
+    is_read(alloc, from_slice_whole_at(alloc, bytes)?)?;
+    is_read(alloc, from_reader(alloc, bytes)?)
 }
 
-fn is_many(alloc: Global, value: Many) -> Result<(), Fail> {
+fn is_read(alloc: Global, value: Many) -> Result<(), Fail> {
     if value == many(alloc)? {
         return Ok(());
     }
     Err(Fail::new(format_args!("{} numbers of {value:?}", value.0.len())))
 }
 
-/// By `deserialize_string` and `deserialize_byte_buf`.
-#[derive(Debug, PartialEq, Drop)]
-struct Strings(String, Vec<u8>);
-
-impl Take for Strings {
-    fn take<S: Source>(
-        alloc: Global,
-        de: &mut Deserializer<S>,
-    ) -> Result<Strings, DecodeError<S::Error>> {
-        let text = de.deserialize_string(alloc)?;
-        Ok(Strings(text, de.deserialize_byte_buf(alloc)?))
-    }
-}
-
 // A text and a byte string of 100,000 letters, 0x186a0.
 #[test]
 fn by_the_calls_for_strings(rt: HostRuntime) -> Result<(), Fail> {
     let alloc = rt.alloc();
-    let letters = vec![in alloc; b'a'; 100_000]?;
-    let text = String::from_utf8(vec![in alloc; b'a'; 100_000]?)?;
     let bytes = repeated(
         alloc,
         b"\x7a\x00\x01\x86\xa0",
@@ -408,5 +297,6 @@ fn by_the_calls_for_strings(rt: HostRuntime) -> Result<(), Fail> {
         b"\x5a\x00\x01\x86\xa0",
     )?;
     let bytes = repeated(alloc, bytes, b"a", 100_000, b"")?;
-    reads_around_a_look(alloc, bytes, &Ok(Is(Strings(text, letters))))
+    let name = "deserialize_string and deserialize_byte_buf";
+    call_around_a_look::<By<Calls>>(alloc, name, bytes, "true")
 }

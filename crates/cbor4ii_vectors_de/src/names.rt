@@ -1,11 +1,10 @@
 //! Names of fields and variants: what they ask of a reader.
 use crate::asked::{Row, asks_no_more_than, asks_rows};
-use crate::typed::Answer::{self, Is};
-use crate::typed::{Take, reads_all};
+use crate::typed::{By, TypedCalls, calls, no_call, shows};
 use cbor4ii::serde::{Choice, DecodeError, Deserializer, Holds, Optional, Otherwise, Unit};
 use cbor4ii_rw::error::{Never, StaticStr};
 use cbor4ii_rw::read::Source;
-use cbor4ii_vectors::rows::Row as ReadRow;
+use cbor4ii_vectors::rows::Called;
 use cbor4ii_vectors::table;
 use std::alloc::Global;
 use std::test::Fail;
@@ -33,25 +32,8 @@ const NAMES: [StaticStr; 5] = [
 const NAME: usize = 257;
 
 /// A struct of five fields, of which one came.
-#[derive(Drop)]
+#[derive(Debug, Drop)]
 struct Five(u8);
-
-impl Take for Five {
-    fn take<S: Source>(
-        alloc: Global,
-        de: &mut Deserializer<S>,
-    ) -> Result<Five, DecodeError<S::Error>> {
-        let presences = (Optional, (Optional, (Optional, (Optional, (Optional, ())))));
-        match de.deserialize_fields(alloc, "Five", &NAMES, &[], presences)? {
-            (Some(n), (None, (None, (None, (None, ())))))
-            | (None, (Some(n), (None, (None, (None, ())))))
-            | (None, (None, (Some(n), (None, (None, ())))))
-            | (None, (None, (None, (Some(n), (None, ())))))
-            | (None, (None, (None, (None, (Some(n), ()))))) => Ok(Five(n)),
-            _ => Err(DecodeError::Custom("not one field")),
-        }
-    }
-}
 
 // The head of the map, the name, and a number. Names of no, of 254 and of 300 letters are those of
 // no field: one look skips the number after them.
@@ -72,12 +54,12 @@ const FIELDS: &[Row] = table! {
 #[test]
 fn looks_for_names_of_fields(rt: HostRuntime) -> Result<(), Fail> {
     let alloc = rt.alloc();
-    asks_rows::<Answer<Five>>(alloc, FIELDS)?;
-    asks_no_more_than::<Answer<Five>>(alloc, NAME, FIELDS)
+    asks_rows::<By<Names>>(alloc, "five", FIELDS)?;
+    asks_no_more_than::<By<Names>>(alloc, "five", NAME, FIELDS)
 }
 
 /// The name of a variant. The first of them holds a number.
-#[derive(Drop)]
+#[derive(Debug, Drop)]
 struct Variant;
 
 type OfFive = Choice<u8, Choice<(), Choice<(), Choice<(), Choice<(), Never>>>>>;
@@ -85,19 +67,6 @@ type OfFive = Choice<u8, Choice<(), Choice<(), Choice<(), Choice<(), Never>>>>>;
 impl From<OfFive> for Variant {
     fn from(_variant: OfFive) -> Variant {
         Variant
-    }
-}
-
-impl Take for Variant {
-    fn take<S: Source>(
-        alloc: Global,
-        de: &mut Deserializer<S>,
-    ) -> Result<Variant, DecodeError<S::Error>> {
-        let cases = (
-            Holds,
-            (Unit, (Unit, (Unit, (Unit, Otherwise("no such variant"))))),
-        );
-        de.deserialize_variant(alloc, "Variant", &NAMES, cases)
     }
 }
 
@@ -113,36 +82,70 @@ const VARIANTS: &[Row] = table! {
 #[test]
 fn looks_for_names_of_variants(rt: HostRuntime) -> Result<(), Fail> {
     let alloc = rt.alloc();
-    asks_rows::<Answer<Variant>>(alloc, VARIANTS)?;
-    asks_no_more_than::<Answer<Variant>>(alloc, NAME, VARIANTS)
+    asks_rows::<By<Names>>(alloc, "variant", VARIANTS)?;
+    asks_no_more_than::<By<Names>>(alloc, "variant", NAME, VARIANTS)
 }
 
 /// A struct of two fields whose names have one length and differ in their last letter.
 #[derive(Debug, PartialEq, Drop)]
 struct Alike(Option<u8>, Option<u8>);
 
-impl Take for Alike {
-    fn take<S: Source>(
+/// The calls of these names.
+struct Names;
+
+impl TypedCalls for Names {
+    fn make<S: Source>(
+        name: &str,
         alloc: Global,
         de: &mut Deserializer<S>,
-    ) -> Result<Alike, DecodeError<S::Error>> {
-        let presences = (Optional, (Optional, ()));
-        let names = ["measured1", "measured2"];
-        let (first, (second, ())) = de.deserialize_fields(alloc, "Alike", &names, &[], presences)?;
-        Ok(Alike(first, second))
+    ) -> Result<String, DecodeError<S::Error>> {
+        match name {
+            "five" => {
+                let presences = (Optional, (Optional, (Optional, (Optional, (Optional, ())))));
+                match de.deserialize_fields(alloc, "Five", &NAMES, &[], presences)? {
+                    (Some(n), (None, (None, (None, (None, ())))))
+                    | (None, (Some(n), (None, (None, (None, ())))))
+                    | (None, (None, (Some(n), (None, (None, ())))))
+                    | (None, (None, (None, (Some(n), (None, ())))))
+                    | (None, (None, (None, (None, (Some(n), ()))))) => shows(alloc, Five(n)),
+                    _ => Err(DecodeError::Custom("not one field")),
+                }
+            }
+            "variant" => {
+                let cases = (
+                    Holds,
+                    (Unit, (Unit, (Unit, (Unit, Otherwise("no such variant"))))),
+                );
+                let read: Variant = de.deserialize_variant(alloc, "Variant", &NAMES, cases)?;
+                shows(alloc, read)
+            }
+            "alike" => {
+                let presences = (Optional, (Optional, ()));
+                let names = ["measured1", "measured2"];
+                let (first, (second, ())) = de.deserialize_fields(
+                    alloc,
+                    "Alike",
+                    &names,
+                    &[],
+                    presences,
+                )?;
+                shows(alloc, Alike(first, second))
+            }
+            _ => no_call(),
+        }
     }
 }
 
-const ALIKE: &[ReadRow<Answer<Alike>>] = table! {
-    (b"\xa1\x69measured1\x05", Ok(Is(Alike(Some(5), None))), b""),
-    (b"\xa1\x69measured2\x05", Ok(Is(Alike(None, Some(5)))), b""),
-    (b"\xa2\x69measured2\x05\x69measured1\x06", Ok(Is(Alike(Some(6), Some(5)))), b""),
-    (b"\xa1\x69measured3\x05", Ok(Is(Alike(None, None))), b""),
-    (b"\xa1\x68measured\x05", Ok(Is(Alike(None, None))), b""),
-    (b"\xa1\x6ameasured10\x05", Ok(Is(Alike(None, None))), b""),
+const READ: &[Called] = table! {
+    ("alike", b"\xa1\x69measured1\x05", Ok("Alike(Some(5), None)"), b""),
+    ("alike", b"\xa1\x69measured2\x05", Ok("Alike(None, Some(5))"), b""),
+    ("alike", b"\xa2\x69measured2\x05\x69measured1\x06", Ok("Alike(Some(6), Some(5))"), b""),
+    ("alike", b"\xa1\x69measured3\x05", Ok("Alike(None, None)"), b""),
+    ("alike", b"\xa1\x68measured\x05", Ok("Alike(None, None)"), b""),
+    ("alike", b"\xa1\x6ameasured10\x05", Ok("Alike(None, None)"), b""),
 };
 
 #[test]
 fn names_that_begin_alike(rt: HostRuntime) -> Result<(), Fail> {
-    reads_all(rt.alloc(), ALIKE, &[])
+    calls::<Names>(rt.alloc(), READ, &[])
 }

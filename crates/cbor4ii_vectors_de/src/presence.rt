@@ -6,11 +6,10 @@ ghost use Rattle.cbor4ii.specs.FieldKey.{text_key};
 ghost use Rattle.cbor4ii.specs.Presence.{no_more_fields, optional_field, field_or_else};
 ghost use Rattle.cbor4ii.specs.Presence.{required_field, struct_from};
 
-use crate::typed::Answer::{self, Custom, Is};
-use crate::typed::{Take, reads_all};
+use crate::typed::{TypedCalls, calls, no_call, shows};
 use cbor4ii::serde::{DecodeError, Deserialize, Deserializer, Optional, Or, Required, Typed};
 use cbor4ii_rw::read::Source;
-use cbor4ii_vectors::rows::Row;
+use cbor4ii_vectors::rows::Called;
 use cbor4ii_vectors::{mismatch, table};
 use std::alloc::Global;
 use std::test::Fail;
@@ -49,27 +48,34 @@ impl Typed for Lamp {
         (no_more_fields text_key))))) };
 }
 
-impl Take for Lamp {
-    fn take<S: Source>(
+/// The calls of these names.
+struct Lamps;
+
+impl TypedCalls for Lamps {
+    fn make<S: Source>(
+        name: &str,
         alloc: Global,
         de: &mut Deserializer<S>,
-    ) -> Result<Lamp, DecodeError<S::Error>> {
-        Lamp::deserialize(alloc, de)
+    ) -> Result<String, DecodeError<S::Error>> {
+        match name {
+            "lamp" => {
+                let read: Lamp = Lamp::deserialize(alloc, de)?;
+                shows(alloc, read)
+            }
+            _ => no_call(),
+        }
     }
 }
 
-const LAMPS: &[Row<Answer<Lamp>>] = table! {
-    (b"\xa1\x65level\x07", Ok(Is(Lamp { level: 7, delay: 60, room: None })), b""),
-    (
-        b"\xa3\x64room\x02\x65delay\x05\x65level\x07",
-        Ok(Is(Lamp { level: 7, delay: 5, room: Some(2) })),
-        b"",
-    ),
-    (b"\xa1\x65delay\x05\x00", Ok(Custom("a lamp has a level")), b"\x00"),
-    (b"\xa2\x65level\x07\x65delay\xf6\x00", Err(mismatch!("u8", 0xf6)), b"\x00"),
+const READ: &[Called] = table! {
+    ("lamp", b"\xa1\x65level\x07", Ok("Lamp { level: 7, delay: 60, room: None }"), b""),
+    ("lamp", b"\xa3\x64room\x02\x65delay\x05\x65level\x07",
+        Ok("Lamp { level: 7, delay: 5, room: Some(2) }"), b""),
+    ("lamp", b"\xa1\x65delay\x05\x00", Ok("Custom(\"a lamp has a level\")"), b"\x00"),
+    ("lamp", b"\xa2\x65level\x07\x65delay\xf6\x00", Err(mismatch!("u8", 0xf6)), b"\x00"),
 };
 
 #[test]
 fn a_struct_is_read_alone(rt: HostRuntime) -> Result<(), Fail> {
-    reads_all(rt.alloc(), LAMPS, &[])
+    calls::<Lamps>(rt.alloc(), READ, &[])
 }

@@ -9,12 +9,14 @@ use cbor4ii_rw::read::Source;
 use cbor4ii_rw::slice_reader::SliceReader;
 use cbor4ii_rw::write::Write;
 use cbor4ii_vectors::rows::{
-    ReadFrom, Row, RowWithin, Want, WriteTo, ends_at_each_prefix, reads, reads_alike, reads_rows,
-    reads_rows_within, reads_texts, reads_texts_within, writes,
+    Called, CalledWithin, Calls, ReadFrom, Row, RowWithin, Want, WriteTo, calls_rows,
+    calls_rows_within, ends_at_each_prefix, reads, reads_alike, reads_rows, reads_rows_within,
+    reads_texts, reads_texts_within, says, writes,
 };
 use cbor4ii_vectors_ser::typed::write_typed;
 use std::alloc::Global;
 use std::fmt::{Debug, InlineText};
+use std::marker::PhantomData;
 use std::test::Fail;
 
 // The steps of a reader that is given no other limit.
@@ -38,6 +40,61 @@ pub trait Take: Sized {
         alloc: Global,
         de: &mut Deserializer<S>,
     ) -> Result<Self, DecodeError<S::Error>>;
+}
+
+/// Calls of a deserializer that differ by their names.
+pub trait TypedCalls {
+    /// The `Debug` text of what the call of this name reads from the beginning of what `de` has
+    /// left. Of a name that is none of a call nothing is read, and `no_call` is the answer.
+    fn make<S: Source>(
+        name: &str,
+        alloc: Global,
+        de: &mut Deserializer<S>,
+    ) -> Result<String, DecodeError<S::Error>>;
+}
+
+/// The calls, of which one that is rejected in words of its own has the text of that error.
+pub struct By<C>(PhantomData<C>);
+
+impl<C: TypedCalls> Calls for By<C> {
+    fn call<S: Source>(
+        name: &str,
+        alloc: Global,
+        reader: &mut S,
+    ) -> Result<String, core_error::DecodeError<S::Error>> {
+        match C::make(name, alloc, &mut Deserializer::new(reader)) {
+            Ok(text) => Ok(text),
+            Err(DecodeError::Core(error)) => Err(error),
+            Err(DecodeError::Custom(words)) => says(alloc, Ok(Custom(words))),
+        }
+    }
+}
+
+/// An error in words of its own.
+#[derive(Debug, Drop)]
+struct Custom(StaticStr);
+
+/// The `Debug` text of what was read.
+pub fn shows<T: Debug + Drop, E>(alloc: Global, value: T) -> Result<String, DecodeError<E>> {
+    match says(alloc, Ok(value)) {
+        Ok(text) => Ok(text),
+        Err(error) => Err(DecodeError::Core(error)),
+    }
+}
+
+/// What a call of no name reads.
+pub fn no_call<E>() -> Result<String, DecodeError<E>> {
+    Err(DecodeError::Custom("no call has this name"))
+}
+
+/// Makes the call of each row, of those without a limit and of those within one.
+pub fn calls<C: TypedCalls>(
+    alloc: Global,
+    rows: &[Called],
+    within: &[CalledWithin],
+) -> Result<(), Fail> {
+    calls_rows::<By<C>>(alloc, rows)?;
+    calls_rows_within::<By<C>>(alloc, within)
 }
 
 impl<T> Answer<T> {

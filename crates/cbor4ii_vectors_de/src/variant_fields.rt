@@ -1,6 +1,5 @@
 //! Rows of variants that hold named fields, read in the call of their enum.
-use crate::typed::Answer::{self, Custom, Is};
-use crate::typed::{Take, reads_all};
+use crate::typed::{TypedCalls, calls, no_call, shows};
 use cbor4ii::serde::Choice::{First, Other};
 use cbor4ii::serde::{
     Choice, DecodeError, Deserializer, FieldWords, Holds, HoldsFields, Once, Optional, Or,
@@ -8,7 +7,7 @@ use cbor4ii::serde::{
 };
 use cbor4ii_rw::error::{Never, StaticStr};
 use cbor4ii_rw::read::Source;
-use cbor4ii_vectors::rows::{Row, RowWithin};
+use cbor4ii_vectors::rows::{Called, CalledWithin};
 use cbor4ii_vectors::{eof, mismatch, no_step, table};
 use std::alloc::Global;
 use std::marker::PhantomData;
@@ -40,20 +39,6 @@ impl From<Choice<(), Choice<Round, Choice<Flat, Choice<u8, Never>>>>> for Shape 
     }
 }
 
-impl Take for Shape {
-    fn take<S: Source>(
-        alloc: Global,
-        de: &mut Deserializer<S>,
-    ) -> Result<Shape, DecodeError<S::Error>> {
-        let words = FieldWords(&["size", "x", "note"], &["", "not one x"], PhantomData);
-        let presences = (Or(7), (Once(Required), (Optional, ())));
-        let flat = HoldsFields(words, presences, (Holds, Otherwise("no such shape")));
-        let words = FieldWords(&["x", "size"], &["no x", "no size"], PhantomData);
-        let round = HoldsFields(words, (Required, (Required, ())), flat);
-        de.deserialize_variant(alloc, "Shape", &SHAPES, (Unit, round))
-    }
-}
-
 // The fields x and size, in a map of a length, in another order, and in a map of none.
 const ROUND: &[u8] = b"\xa1\x65Round\xa2\x61x\x01\x64size\x02";
 
@@ -68,42 +53,66 @@ const AGAIN: &[u8] = b"\xa1\x65Round\xa3\x61x\x01\x61x\x03\x64size\x02";
 
 const FLAT: &[u8] = b"\xa1\x64Flat\xa3\x61x\x05\x64note\x09\x64size\x03";
 
-const SHAPES_READ: &[Row<Answer<Shape>>] = table! {
-    (b"\x65Blank", Ok(Is(Shape::Blank)), b""),
-    (b"\xa1\x64Line\x09\x00", Ok(Is(Shape::Line(9))), b"\x00"),
-    (ROUND, Ok(Is(Shape::Round { x: 1, size: 2 })), b""),
-    (TURNED, Ok(Is(Shape::Round { x: 1, size: 2 })), b""),
-    (INDEFINITE, Ok(Is(Shape::Round { x: 1, size: 2 })), b""),
-    (NOTED, Ok(Is(Shape::Round { x: 1, size: 2 })), b""),
+/// The calls of these names.
+struct Shapes;
+
+impl TypedCalls for Shapes {
+    fn make<S: Source>(
+        name: &str,
+        alloc: Global,
+        de: &mut Deserializer<S>,
+    ) -> Result<String, DecodeError<S::Error>> {
+        match name {
+            "shape" => {
+                let words = FieldWords(&["size", "x", "note"], &["", "not one x"], PhantomData);
+                let presences = (Or(7), (Once(Required), (Optional, ())));
+                let flat = HoldsFields(words, presences, (Holds, Otherwise("no such shape")));
+                let words = FieldWords(&["x", "size"], &["no x", "no size"], PhantomData);
+                let round = HoldsFields(words, (Required, (Required, ())), flat);
+                let read: Shape = de.deserialize_variant(alloc, "Shape", &SHAPES, (Unit, round))?;
+                shows(alloc, read)
+            }
+            _ => no_call(),
+        }
+    }
+}
+
+const READ: &[Called] = table! {
+    ("shape", b"\x65Blank", Ok("Blank"), b""),
+    ("shape", b"\xa1\x64Line\x09\x00", Ok("Line(9)"), b"\x00"),
+    ("shape", ROUND, Ok("Round { x: 1, size: 2 }"), b""),
+    ("shape", TURNED, Ok("Round { x: 1, size: 2 }"), b""),
+    ("shape", INDEFINITE, Ok("Round { x: 1, size: 2 }"), b""),
+    ("shape", NOTED, Ok("Round { x: 1, size: 2 }"), b""),
     // Of several pairs of one name the last counts.
-    (AGAIN, Ok(Is(Shape::Round { x: 3, size: 2 })), b""),
-    (b"\xa1\x65Round\xa1\x61x\x01\x00", Ok(Custom("no size")), b"\x00"),
-    (b"\xa1\x65Round\xa0\x00", Ok(Custom("no x")), b"\x00"),
-    (b"\xa1\x65Round\xa1\x61x\xf6\x00", Err(mismatch!("u8", 246)), b"\x00"),
-    (b"\xa1\x65Round\x80\x00", Err(mismatch!("map", 128)), b"\x00"),
-    (b"\xa1\x65Round", Err(eof!("map", 1)), b""),
-    (b"\xa1\x65Round\xbf\x61x\x01", Err(eof!("break", 1)), b""),
-    (b"\x65Round\xa0", Err(mismatch!("enum", 101)), b"\xa0"),
-    (FLAT, Ok(Is(Shape::Flat { size: 3, x: 5, note: Some(9) })), b""),
-    (b"\xa1\x64Flat\xa1\x61x\x05", Ok(Is(Shape::Flat { size: 7, x: 5, note: None })), b""),
-    (b"\xa1\x64Flat\xa1\x64size\x03\x00", Ok(Custom("not one x")), b"\x00"),
-    (b"\xa1\x64Flat\xa2\x61x\x05\x61x\x05\x00", Ok(Custom("not one x")), b"\x00"),
-    (b"\xa1\x64Flat\xa2\x61x\x05\x64note\xf6\x00", Err(mismatch!("u8", 246)), b"\x00"),
-    (b"\x64Flat\x00", Err(mismatch!("enum", 100)), b"\x00"),
-    (b"\xa1\x65Blank\xa0", Err(mismatch!("enum", 161)), b"\xa0"),
-    (b"\xa1\x65Other\xa0", Ok(Custom("no such shape")), b"\xa0"),
+    ("shape", AGAIN, Ok("Round { x: 3, size: 2 }"), b""),
+    ("shape", b"\xa1\x65Round\xa1\x61x\x01\x00", Ok("Custom(\"no size\")"), b"\x00"),
+    ("shape", b"\xa1\x65Round\xa0\x00", Ok("Custom(\"no x\")"), b"\x00"),
+    ("shape", b"\xa1\x65Round\xa1\x61x\xf6\x00", Err(mismatch!("u8", 246)), b"\x00"),
+    ("shape", b"\xa1\x65Round\x80\x00", Err(mismatch!("map", 128)), b"\x00"),
+    ("shape", b"\xa1\x65Round", Err(eof!("map", 1)), b""),
+    ("shape", b"\xa1\x65Round\xbf\x61x\x01", Err(eof!("break", 1)), b""),
+    ("shape", b"\x65Round\xa0", Err(mismatch!("enum", 101)), b"\xa0"),
+    ("shape", FLAT, Ok("Flat { size: 3, x: 5, note: Some(9) }"), b""),
+    ("shape", b"\xa1\x64Flat\xa1\x61x\x05", Ok("Flat { size: 7, x: 5, note: None }"), b""),
+    ("shape", b"\xa1\x64Flat\xa1\x64size\x03\x00", Ok("Custom(\"not one x\")"), b"\x00"),
+    ("shape", b"\xa1\x64Flat\xa2\x61x\x05\x61x\x05\x00", Ok("Custom(\"not one x\")"), b"\x00"),
+    ("shape", b"\xa1\x64Flat\xa2\x61x\x05\x64note\xf6\x00", Err(mismatch!("u8", 246)), b"\x00"),
+    ("shape", b"\x64Flat\x00", Err(mismatch!("enum", 100)), b"\x00"),
+    ("shape", b"\xa1\x65Blank\xa0", Err(mismatch!("enum", 161)), b"\xa0"),
+    ("shape", b"\xa1\x65Other\xa0", Ok("Custom(\"no such shape\")"), b"\xa0"),
 };
 
-const SHAPES_WITHIN: &[RowWithin<Answer<Shape>>] = table! {
-    (ROUND, 0, Err(no_step!("enum")), ROUND),
-    (ROUND, 1, Err(no_step!("map")), b"\xa2\x61x\x01\x64size\x02"),
-    (ROUND, 2, Ok(Is(Shape::Round { x: 1, size: 2 })), b""),
+const WITHIN: &[CalledWithin] = table! {
+    ("shape", ROUND, 0, Err(no_step!("enum")), ROUND),
+    ("shape", ROUND, 1, Err(no_step!("map")), b"\xa2\x61x\x01\x64size\x02"),
+    ("shape", ROUND, 2, Ok("Round { x: 1, size: 2 }"), b""),
     // What is skipped takes a step of its own, under that of the map.
-    (b"\xa1\x65Round\xa1\x61y\x80", 2, Err(no_step!("ignored-any")), b"\x80"),
-    (b"\xa1\x65Round\xa1\x61y\x80", 3, Ok(Custom("no x")), b""),
+    ("shape", b"\xa1\x65Round\xa1\x61y\x80", 2, Err(no_step!("ignored-any")), b"\x80"),
+    ("shape", b"\xa1\x65Round\xa1\x61y\x80", 3, Ok("Custom(\"no x\")"), b""),
 };
 
 #[test]
 fn variants_of_fields_are_read(rt: HostRuntime) -> Result<(), Fail> {
-    reads_all(rt.alloc(), SHAPES_READ, SHAPES_WITHIN)
+    calls::<Shapes>(rt.alloc(), READ, WITHIN)
 }

@@ -1,6 +1,6 @@
 //! Rows of bytes as tests of `cbor4ii_items`, and tests of `cbor4ii_rw` in `rw`.
 //!
-//! Each file is named as the file that it tests. The rows' values come from RFC 8949 (its Appendix
+//! Each file has the rows of one subject. The rows' values come from RFC 8949 (its Appendix
 //! A above all) and from worked examples, never from this codec's own answers. What several files
 //! share stands in `borrowed_rows`, `cow_rows`, `in_parts` and `rw/shown`.
 #![tactic(auto)]
@@ -16,17 +16,9 @@ mod cow_rows;
 #[cfg(test)]
 mod decode;
 #[cfg(test)]
-mod encode;
-#[cfg(test)]
-mod floats;
+mod heads;
 #[cfg(test)]
 mod in_parts;
-#[cfg(test)]
-mod indefinite;
-#[cfg(test)]
-mod initial;
-#[cfg(test)]
-mod integer_head;
 #[cfg(test)]
 mod laws;
 #[cfg(test)]
@@ -37,8 +29,6 @@ mod nothing;
 mod numbers;
 #[cfg(test)]
 mod option;
-#[cfg(test)]
-mod prefix;
 #[cfg(test)]
 mod reserve;
 #[cfg(test)]

@@ -8,16 +8,6 @@ use cbor4ii_ser::serializer::Serializer;
 use cbor4ii_vectors::rows::writes;
 use std::test::Fail;
 
-/// No element.
-#[derive(Drop)]
-struct NoElement;
-
-impl Put for NoElement {
-    fn put<W: Write>(&self, ser: &mut Serializer<W>) -> Result<(), EncodeError<W::Error>> {
-        ser.serialize_elements(&())
-    }
-}
-
 /// One element.
 #[derive(Drop)]
 struct One<A>(A);
@@ -64,7 +54,6 @@ const TWELVE: &[u8] = b"\x8c\x07\x07\x07\x07\x07\x07\x07\x07\x07\x07\x07\x07";
 #[test]
 fn any_number_of_elements(rt: HostRuntime) -> Result<(), Fail> {
     let alloc = rt.alloc();
-    writes(alloc, &Typed(NoElement), b"\x80")?;
     writes(alloc, &Typed(One(500u16)), b"\x81\x19\x01\xf4")?;
     writes(alloc, &Typed(Twelve(7)), TWELVE)?;
     Ok(())

@@ -1,6 +1,6 @@
-//! Rows of typed values that are only written, as tests, in files named as those of `cbor4ii_ser`.
-//! Rows of variants stand in `fields` and `serializer`, and those of values as the parts of each
-//! call in `parts`. What several of them share stands in `by_pieces`, `pieces`, `tagged` and
+//! Rows of typed values that are only written, as tests, each file of one subject.
+//! Rows of calls by their names stand in `calls`, and those of values as the parts of each call in
+//! `parts`. What several of them share stands in `by_pieces`, `pieces`, `tagged` and
 //! `typed`.
 //!
 //! The rows' values come from RFC 8949 and from worked examples, never from this codec's own
@@ -8,17 +8,15 @@
 #![tactic(auto)]
 
 #[cfg(test)]
-mod bounded;
+mod accessors;
 #[cfg(test)]
 mod by_pieces;
 #[cfg(test)]
-mod collect;
+mod calls;
 #[cfg(test)]
 mod elements;
 #[cfg(test)]
 mod error;
-#[cfg(test)]
-mod fields;
 #[cfg(test)]
 mod held;
 #[cfg(test)]
@@ -36,8 +34,6 @@ mod parts;
 pub mod pieces;
 #[cfg(test)]
 mod sequences;
-#[cfg(test)]
-mod serializer;
 #[cfg(test)]
 mod slot;
 #[cfg(test)]

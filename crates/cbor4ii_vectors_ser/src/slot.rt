@@ -181,80 +181,34 @@ fn texts_in_pieces(rt: HostRuntime) -> Result<(), Fail> {
     pieces(alloc, 1, 65536, &[1, 1, 1, 5, 65536, 1])
 }
 
-/// The head of an array of so many items.
+/// What stands before so many parts of an accessor.
 #[derive(Drop)]
-struct ArrayHead(Option<usize>);
+struct Head(&'static str, usize);
 
-impl Put for ArrayHead {
+impl Put for Head {
     fn put<W: Write>(&self, ser: &mut Serializer<W>) -> Result<(), EncodeError<W::Error>> {
-        let _items = ser.serialize_seq(self.0)?;
-        Ok(())
-    }
-}
-
-/// The head of a map of so many pairs.
-#[derive(Drop)]
-struct MapHead(Option<usize>);
-
-impl Put for MapHead {
-    fn put<W: Write>(&self, ser: &mut Serializer<W>) -> Result<(), EncodeError<W::Error>> {
-        let _entries = ser.serialize_map(self.0)?;
-        Ok(())
-    }
-}
-
-/// The head of a tuple of so many items.
-#[derive(Drop)]
-struct TupleHead(usize);
-
-impl Put for TupleHead {
-    fn put<W: Write>(&self, ser: &mut Serializer<W>) -> Result<(), EncodeError<W::Error>> {
-        let _items = ser.serialize_tuple(self.0)?;
-        Ok(())
-    }
-}
-
-/// The head of a struct of so many fields.
-#[derive(Drop)]
-struct StructHead(usize);
-
-impl Put for StructHead {
-    fn put<W: Write>(&self, ser: &mut Serializer<W>) -> Result<(), EncodeError<W::Error>> {
-        let _fields = ser.serialize_struct("Struct", self.0)?;
-        Ok(())
-    }
-}
-
-/// What stands before the items of a variant of so many.
-#[derive(Drop)]
-struct TupleVariantHead(usize);
-
-impl Put for TupleVariantHead {
-    fn put<W: Write>(&self, ser: &mut Serializer<W>) -> Result<(), EncodeError<W::Error>> {
-        let _items = ser.serialize_tuple_variant("Enum", 0, "Tuple", self.0)?;
-        Ok(())
-    }
-}
-
-/// What stands before the fields of a variant of so many.
-#[derive(Drop)]
-struct StructVariantHead(usize);
-
-impl Put for StructVariantHead {
-    fn put<W: Write>(&self, ser: &mut Serializer<W>) -> Result<(), EncodeError<W::Error>> {
-        let _fields = ser.serialize_struct_variant("Enum", 0, "Struct", self.0)?;
+        match self.0 {
+            "array" => drop(ser.serialize_seq(Some(self.1))?),
+            "map" => drop(ser.serialize_map(Some(self.1))?),
+            "tuple" => drop(ser.serialize_tuple(self.1)?),
+            "struct" => drop(ser.serialize_struct("Struct", self.1)?),
+            "tuple variant" => drop(ser.serialize_tuple_variant("Enum", 0, "Tuple", self.1)?),
+            "struct variant" => drop(ser.serialize_struct_variant("Enum", 0, "Struct", self.1)?),
+            "any array" => drop(ser.serialize_seq(None)?),
+            _ => drop(ser.serialize_map(None)?),
+        }
         Ok(())
     }
 }
 
 // What begins an array and a map of so many parts, by each accessor, with a head of so many bytes.
 fn accessors(alloc: Global, count: usize, head: usize) -> Result<(), Fail> {
-    pushes(alloc, &ArrayHead(Some(count)), &[head])?;
-    pushes(alloc, &MapHead(Some(count)), &[head])?;
-    pushes(alloc, &TupleHead(count), &[head])?;
-    pushes(alloc, &StructHead(count), &[head])?;
-    pushes(alloc, &TupleVariantHead(count), &[1, 1, 5, head])?;
-    pushes(alloc, &StructVariantHead(count), &[1, 1, 6, head])
+    pushes(alloc, &Head("array", count), &[head])?;
+    pushes(alloc, &Head("map", count), &[head])?;
+    pushes(alloc, &Head("tuple", count), &[head])?;
+    pushes(alloc, &Head("struct", count), &[head])?;
+    pushes(alloc, &Head("tuple variant", count), &[1, 1, 5, head])?;
+    pushes(alloc, &Head("struct variant", count), &[1, 1, 6, head])
 }
 
 #[test]
@@ -265,19 +219,34 @@ fn heads_of_accessors(rt: HostRuntime) -> Result<(), Fail> {
     accessors(alloc, 256, 3)?;
     accessors(alloc, 65536, 5)?;
     accessors(alloc, 0x1_0000_0000, 9)?;
-    pushes(alloc, &ArrayHead(None), &[1])?;
-    pushes(alloc, &MapHead(None), &[1])
+    pushes(alloc, &Head("any array", 0), &[1])?;
+    pushes(alloc, &Head("any map", 0), &[1])
 }
 
-/// A map of any number of pairs, with one, to its end.
+/// Calls by their names, and a variant of one value, whose name it is.
 #[derive(Drop)]
-struct IndefiniteMap;
+struct Named(&'static str);
 
-impl Put for IndefiniteMap {
+impl Put for Named {
     fn put<W: Write>(&self, ser: &mut Serializer<W>) -> Result<(), EncodeError<W::Error>> {
-        let mut entries = ser.serialize_map(None)?;
-        entries.serialize_entry(&"a", &24u8)?;
-        entries.end()
+        match self.0 {
+            // A map of any number of pairs, with one, to its end.
+            "a map" => {
+                let mut entries = ser.serialize_map(None)?;
+                entries.serialize_entry(&"a", &24u8)?;
+                entries.end()
+            }
+            // Variants without a value, of two items, and of two fields.
+            "variants" => {
+                ser.serialize_unit_variant("Enum", 0, "Unit")?;
+                ser.serialize_variant_of_2_items("Enum", 1, "Two", &1u8, &256u16)?;
+                ser.serialize_variant_of_2_fields("Enum", 2, "Named", "a", &1u8, "bc", &24u8)
+            }
+            "two fields" => {
+                ser.serialize_2_fields("Struct", "a", &256u16, "aaaaaaaaaaaaaaaaaaaaaaaa", &"b")
+            }
+            name => ser.serialize_newtype_variant("Enum", 0, name, &24u8),
+        }
     }
 }
 
@@ -297,7 +266,7 @@ fn arrays_and_maps(rt: HostRuntime) -> Result<(), Fail> {
     let alloc = rt.alloc();
     pushes(alloc, &(1u8, 24u8), &[1, 1, 2])?;
     pushes(alloc, &(1u8, "ab", 256u16), &[1, 1, 1, 2, 3])?;
-    pushes(alloc, &IndefiniteMap, &[1, 1, 1, 2, 1])?;
+    pushes(alloc, &Named("a map"), &[1, 1, 1, 2, 1])?;
     parts(alloc, 23, &[1])?;
     parts(alloc, 24, &[2])?;
     parts(alloc, 256, &[3])?;
@@ -306,51 +275,19 @@ fn arrays_and_maps(rt: HostRuntime) -> Result<(), Fail> {
     pushes(alloc, &map, &[1, 1, 3, 2])
 }
 
-/// A variant of this name, of one value.
-#[derive(Drop)]
-struct Newtype<'a>(&'a str);
-
-impl Put for Newtype<'_> {
-    fn put<W: Write>(&self, ser: &mut Serializer<W>) -> Result<(), EncodeError<W::Error>> {
-        ser.serialize_newtype_variant("Enum", 0, self.0, &24u8)
-    }
-}
-
-/// Variants without a value, of two items, and of two fields.
-#[derive(Drop)]
-struct Variants;
-
-impl Put for Variants {
-    fn put<W: Write>(&self, ser: &mut Serializer<W>) -> Result<(), EncodeError<W::Error>> {
-        ser.serialize_unit_variant("Enum", 0, "Unit")?;
-        ser.serialize_variant_of_2_items("Enum", 1, "Two", &1u8, &256u16)?;
-        ser.serialize_variant_of_2_fields("Enum", 2, "Named", "a", &1u8, "bc", &24u8)
-    }
-}
-
 const VARIANTS: &[usize] = &[1, 4, 1, 1, 3, 1, 1, 3, 1, 1, 5, 1, 1, 1, 1, 1, 2, 2];
 
 #[test]
 fn variants_by_name(rt: HostRuntime) -> Result<(), Fail> {
     let alloc = rt.alloc();
-    pushes(alloc, &Newtype("New"), &[1, 1, 3, 2])?;
-    pushes(alloc, &Newtype("aaaaaaaaaaaaaaaaaaaaaaaa"), &[1, 2, 24, 2])?;
-    pushes(alloc, &Variants, VARIANTS)
-}
-
-/// A struct of two fields.
-#[derive(Drop)]
-struct Fields;
-
-impl Put for Fields {
-    fn put<W: Write>(&self, ser: &mut Serializer<W>) -> Result<(), EncodeError<W::Error>> {
-        ser.serialize_2_fields("Struct", "a", &256u16, "aaaaaaaaaaaaaaaaaaaaaaaa", &"b")
-    }
+    pushes(alloc, &Named("New"), &[1, 1, 3, 2])?;
+    pushes(alloc, &Named("aaaaaaaaaaaaaaaaaaaaaaaa"), &[1, 2, 24, 2])?;
+    pushes(alloc, &Named("variants"), VARIANTS)
 }
 
 #[test]
 fn structs(rt: HostRuntime) -> Result<(), Fail> {
-    pushes(rt.alloc(), &Fields, &[1, 1, 1, 3, 2, 24, 1, 1])
+    pushes(rt.alloc(), &Named("two fields"), &[1, 1, 1, 3, 2, 24, 1, 1])
 }
 
 #[test]

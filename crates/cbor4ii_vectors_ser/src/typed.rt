@@ -20,7 +20,7 @@ impl<T: Serialize> Put for T {
 }
 
 /// Writes the byte `1c`, with which no item begins (RFC 8949 section 3), so that the row fails.
-fn spoil<W: Write>(writer: &mut W) -> Result<(), core_error::EncodeError<W::Error>> {
+pub fn spoil<W: Write>(writer: &mut W) -> Result<(), core_error::EncodeError<W::Error>> {
     match writer.push(b"\x1c") {
         Ok(()) => Ok(()),
         Err(error) => Err(core_error::EncodeError::Write(error)),

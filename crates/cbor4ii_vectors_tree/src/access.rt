@@ -2,288 +2,113 @@
 use crate::encode_value::{BELOW_64, TWO_TO_64};
 use crate::literal::Literal::{self, Array, Bool, Bytes, Float, Integer, Map, Null, Tag, Text};
 use cbor4ii_tree::FloatBits::{F16, F32, F64};
-use cbor4ii_tree::{FloatBits, Value};
+use cbor4ii_tree::Value;
 use cbor4ii_vectors::table;
 use std::alloc::Global;
 use std::test::Fail;
 
-const NULLS: &[(Literal, bool)] = table! {
-    (Null, true),
-    (Bool(false), false),
-    (Integer(0), false),
-    (Text(""), false),
-    (Array(&[]), false),
-    (Array(&[Null]), false),
-    (Tag(0, &Null), false),
+/// A call that looks into a value, the value, and the `Debug` text of the answer.
+const LOOKED_INTO: &[(&str, Literal, &str)] = table! {
+    ("is_null", Null, "true"),
+    ("is_null", Bool(false), "false"),
+    ("is_null", Integer(0), "false"),
+    ("is_null", Text(""), "false"),
+    ("is_null", Array(&[]), "false"),
+    ("is_null", Array(&[Null]), "false"),
+    ("is_null", Tag(0, &Null), "false"),
+    ("as_bool", Bool(false), "Some(false)"),
+    ("as_bool", Bool(true), "Some(true)"),
+    ("as_bool", Null, "None"),
+    ("as_bool", Integer(1), "None"),
+    ("as_bool", Text("true"), "None"),
+    ("as_bool", Array(&[Bool(true)]), "None"),
+    ("as_bool", Tag(1, &Bool(true)), "None"),
+    ("as_integer", Integer(0), "Some(0)"),
+    ("as_integer", Integer(1000000000000), "Some(1000000000000)"),
+    ("as_integer", Integer(-1), "Some(-1)"),
+    ("as_integer", Integer(-18446744073709551616), "Some(-18446744073709551616)"),
+    ("as_integer", Integer(i128::MAX), "Some(170141183460469231731687303715884105727)"),
+    ("as_integer", Integer(i128::MIN), "Some(-170141183460469231731687303715884105728)"),
+    ("as_integer", Null, "None"),
+    ("as_integer", Bool(true), "None"),
+    ("as_integer", Float(F16(0x3c00)), "None"),
+    ("as_integer", Text("1"), "None"),
+    ("as_integer", Bytes(b"\x01"), "None"),
+    ("as_integer", Array(&[Integer(1)]), "None"),
+    ("as_integer", Tag(2, &Bytes(b"\x01\x00\x00\x00\x00\x00\x00\x00\x00")), "None"),
+    ("as_integer", Tag(1, &Integer(1363896240)), "None"),
+    ("as_float", Float(F16(0x3c00)), "Some(F16(15360))"),
+    ("as_float", Float(F32(0x47c3_5000)), "Some(F32(1203982336))"),
+    ("as_float", Float(F64(0x3ff1_9999_9999_999a)), "Some(F64(4607632778762754458))"),
+    ("as_float", Integer(1), "None"),
+    ("as_float", Null, "None"),
+    ("as_float", Text("1.0"), "None"),
+    ("as_float", Array(&[Float(F16(0x3c00))]), "None"),
+    ("as_float", Tag(1, &Float(F64(0x41d4_52d9_ec20_0000))), "None"),
+    ("as_bytes", Bytes(b""), "Some([])"),
+    ("as_bytes", Bytes(b"\x01\x02\x03\x04"), "Some([1, 2, 3, 4])"),
+    ("as_bytes", Text("a"), "None"),
+    ("as_bytes", Text(""), "None"),
+    ("as_bytes", Array(&[Integer(1)]), "None"),
+    ("as_bytes", Tag(24, &Bytes(b"\x64IETF")), "None"),
+    ("as_text", Text(""), "Some(\"\")"),
+    ("as_text", Text("IETF"), "Some(\"IETF\")"),
+    ("as_text", Text("\u{fc}"), "Some(\"ü\")"),
+    ("as_text", Bytes(b"IETF"), "None"),
+    ("as_text", Bytes(b""), "None"),
+    ("as_text", Null, "None"),
+    ("as_text", Array(&[Text("a")]), "None"),
+    ("as_text", Tag(32, &Text("http://www.example.com")), "None"),
+    ("as_array", Array(&[]), "Some([])"),
+    ("as_array", Array(&[Integer(1), Integer(2), Integer(3)]),
+        "Some([Integer(1), Integer(2), Integer(3)])"),
+    ("as_array", Array(&[Array(&[Null]), Text("a")]), "Some([Array([Null]), Text(\"a\")])"),
+    ("as_array", Map(&[]), "None"),
+    ("as_array", Bytes(b""), "None"),
+    ("as_array", Tag(1, &Array(&[Null])), "None"),
+    ("as_map", Map(&[]), "Some([])"),
+    ("as_map", Map(&[(Integer(1), Integer(2)), (Integer(3), Integer(4))]),
+        "Some([(Integer(1), Integer(2)), (Integer(3), Integer(4))])"),
+    ("as_map", Map(&[(Text("a"), Null), (Text("a"), Map(&[]))]),
+        "Some([(Text(\"a\"), Null), (Text(\"a\"), Map([]))])"),
+    ("as_map", Array(&[]), "None"),
+    ("as_map", Array(&[Integer(1), Integer(2)]), "None"),
+    ("as_map", Tag(1, &Map(&[])), "None"),
+    ("as_tag", Tag(0, &Text("2013-03-21T20:04:00Z")), "Some((0, Text(\"2013-03-21T20:04:00Z\")))"),
+    ("as_tag", Tag(u64::MAX, &Tag(1, &Null)), "Some((18446744073709551615, Tag(1, Null)))"),
+    ("as_tag", Integer(1), "None"),
+    ("as_tag", Integer(18446744073709551616), "None"),
+    ("as_tag", Array(&[Tag(1, &Null)]), "None"),
 };
 
-fn are_null(alloc: Global, rows: &[(Literal, bool)]) -> Result<(), Fail> {
-    for (literal, want) in rows {
-        let value = literal.to_value(alloc)?;
-        if value.is_null() != *want {
-            return Err(Fail::new(format_args!("{value:?} is null: {}", !*want)));
-        }
-    }
-    Ok(())
-}
-
-#[test]
-fn null_alone_is_null(rt: HostRuntime) -> Result<(), Fail> {
-    are_null(rt.alloc(), NULLS)
-}
-
-const FLAGS: &[(Literal, Option<bool>)] = table! {
-    (Bool(false), Some(false)),
-    (Bool(true), Some(true)),
-    (Null, None),
-    (Integer(1), None),
-    (Text("true"), None),
-    (Array(&[Bool(true)]), None),
-    (Tag(1, &Bool(true)), None),
-};
-
-fn are_flags(alloc: Global, rows: &[(Literal, Option<bool>)]) -> Result<(), Fail> {
-    for (literal, want) in rows {
-        let value = literal.to_value(alloc)?;
-        if value.as_bool() != *want {
-            return Err(Fail::new(format_args!("{value:?} as a bool is not {want:?}")));
-        }
-    }
-    Ok(())
-}
-
-#[test]
-fn bools_are_taken_out(rt: HostRuntime) -> Result<(), Fail> {
-    are_flags(rt.alloc(), FLAGS)
-}
-
-const INTEGERS: &[(Literal, Option<i128>)] = table! {
-    (Integer(0), Some(0)),
-    (Integer(1000000000000), Some(1000000000000)),
-    (Integer(-1), Some(-1)),
-    (Integer(-18446744073709551616), Some(-18446744073709551616)),
-    (Integer(i128::MAX), Some(i128::MAX)),
-    (Integer(i128::MIN), Some(i128::MIN)),
-    (Null, None),
-    (Bool(true), None),
-    (Float(F16(0x3c00)), None),
-    (Text("1"), None),
-    (Bytes(b"\x01"), None),
-    (Array(&[Integer(1)]), None),
-    (Tag(2, &Bytes(b"\x01\x00\x00\x00\x00\x00\x00\x00\x00")), None),
-    (Tag(1, &Integer(1363896240)), None),
-};
-
-fn are_integers(alloc: Global, rows: &[(Literal, Option<i128>)]) -> Result<(), Fail> {
-    for (literal, want) in rows {
-        let value = literal.to_value(alloc)?;
-        if value.as_integer() != *want {
-            return Err(Fail::new(format_args!("{value:?} as an integer is not {want:?}")));
-        }
-    }
-    Ok(())
-}
-
-#[test]
-fn integers_are_taken_out(rt: HostRuntime) -> Result<(), Fail> {
-    are_integers(rt.alloc(), INTEGERS)
-}
-
-const FLOATS: &[(Literal, Option<FloatBits>)] = table! {
-    (Float(F16(0x3c00)), Some(F16(0x3c00))),
-    (Float(F32(0x47c3_5000)), Some(F32(0x47c3_5000))),
-    (Float(F64(0x3ff1_9999_9999_999a)), Some(F64(0x3ff1_9999_9999_999a))),
-    (Integer(1), None),
-    (Null, None),
-    (Text("1.0"), None),
-    (Array(&[Float(F16(0x3c00))]), None),
-    (Tag(1, &Float(F64(0x41d4_52d9_ec20_0000))), None),
-};
-
-fn are_floats(alloc: Global, rows: &[(Literal, Option<FloatBits>)]) -> Result<(), Fail> {
-    for (literal, want) in rows {
-        let value = literal.to_value(alloc)?;
-        if value.as_float() != *want {
-            return Err(Fail::new(format_args!("{value:?} as a float is not {want:?}")));
-        }
-    }
-    Ok(())
-}
-
-#[test]
-fn floats_are_taken_out(rt: HostRuntime) -> Result<(), Fail> {
-    are_floats(rt.alloc(), FLOATS)
-}
-
-const BYTE_STRINGS: &[(Literal, Option<&[u8]>)] = table! {
-    (Bytes(b""), Some(b"")),
-    (Bytes(b"\x01\x02\x03\x04"), Some(b"\x01\x02\x03\x04")),
-    (Text("a"), None),
-    (Text(""), None),
-    (Array(&[Integer(1)]), None),
-    (Tag(24, &Bytes(b"\x64IETF")), None),
-};
-
-fn are_byte_strings(alloc: Global, rows: &[(Literal, Option<&[u8]>)]) -> Result<(), Fail> {
-    for (literal, want) in rows {
-        let value = literal.to_value(alloc)?;
-        if value.as_bytes() != *want {
-            return Err(Fail::new(format_args!("{value:?} as bytes is not {want:?}")));
-        }
-    }
-    Ok(())
-}
-
-#[test]
-fn byte_strings_are_taken_out(rt: HostRuntime) -> Result<(), Fail> {
-    are_byte_strings(rt.alloc(), BYTE_STRINGS)
-}
-
-const TEXTS: &[(Literal, Option<&str>)] = table! {
-    (Text(""), Some("")),
-    (Text("IETF"), Some("IETF")),
-    (Text("\u{fc}"), Some("\u{fc}")),
-    (Bytes(b"IETF"), None),
-    (Bytes(b""), None),
-    (Null, None),
-    (Array(&[Text("a")]), None),
-    (Tag(32, &Text("http://www.example.com")), None),
-};
-
-fn are_texts(alloc: Global, rows: &[(Literal, Option<&str>)]) -> Result<(), Fail> {
-    for (literal, want) in rows {
-        let value = literal.to_value(alloc)?;
-        if value.as_text() != *want {
-            return Err(Fail::new(format_args!("{value:?} as a text is not {want:?}")));
-        }
-    }
-    Ok(())
-}
-
-#[test]
-fn texts_are_taken_out(rt: HostRuntime) -> Result<(), Fail> {
-    are_texts(rt.alloc(), TEXTS)
-}
-
-const ARRAYS: &[(Literal, Option<&[Literal]>)] = table! {
-    (Array(&[]), Some(&[])),
-    (Array(&[Integer(1), Integer(2), Integer(3)]), Some(&[Integer(1), Integer(2), Integer(3)])),
-    (Array(&[Array(&[Null]), Text("a")]), Some(&[Array(&[Null]), Text("a")])),
-    (Map(&[]), None),
-    (Bytes(b""), None),
-    (Tag(1, &Array(&[Null])), None),
-};
-
-fn are_arrays(alloc: Global, rows: &[(Literal, Option<&[Literal]>)]) -> Result<(), Fail> {
-    for (literal, want) in rows {
-        let value = literal.to_value(alloc)?;
-        if !is_array(alloc, value.as_array(), *want)? {
-            return Err(Fail::new(format_args!("{:?} of {value:?}", value.as_array())));
-        }
-    }
-    Ok(())
-}
-
-fn is_array(
-    alloc: Global,
-    found: Option<&[Value]>,
-    want: Option<&[Literal]>,
-) -> Result<bool, Fail> {
-    let (Some(found), Some(want)) = (found, want) else {
-        return Ok(found.is_none() && want.is_none());
+/// The `Debug` text of what the call of this name finds in the value.
+fn look_into(alloc: Global, name: &str, value: &Value) -> Result<String, Fail> {
+    let text = match name {
+        "is_null" => format!(in alloc; "{:?}", value.is_null())?,
+        "as_bool" => format!(in alloc; "{:?}", value.as_bool())?,
+        "as_integer" => format!(in alloc; "{:?}", value.as_integer())?,
+        "as_float" => format!(in alloc; "{:?}", value.as_float())?,
+        "as_bytes" => format!(in alloc; "{:?}", value.as_bytes())?,
+        "as_text" => format!(in alloc; "{:?}", value.as_text())?,
+        "as_array" => format!(in alloc; "{:?}", value.as_array())?,
+        "as_map" => format!(in alloc; "{:?}", value.as_map())?,
+        "as_tag" => format!(in alloc; "{:?}", value.as_tag())?,
+        _ => return Err(Fail::new(format_args!("no call is {name}"))),
     };
-    for (value, literal) in found.iter().zip(want) {
-        if *value != literal.to_value(alloc)? {
-            return Ok(false);
-        }
-    }
-    Ok(found.len() == want.len())
+    Ok(text)
 }
 
 #[test]
-fn arrays_are_taken_out(rt: HostRuntime) -> Result<(), Fail> {
-    are_arrays(rt.alloc(), ARRAYS)
-}
-
-type Pair = (Literal, Literal);
-
-const MAPS: &[(Literal, Option<&[Pair]>)] = table! {
-    (Map(&[]), Some(&[])),
-    (Map(&[(Integer(1), Integer(2)), (Integer(3), Integer(4))]),
-        Some(&[(Integer(1), Integer(2)), (Integer(3), Integer(4))])),
-    (Map(&[(Text("a"), Null), (Text("a"), Map(&[]))]),
-        Some(&[(Text("a"), Null), (Text("a"), Map(&[]))])),
-    (Array(&[]), None),
-    (Array(&[Integer(1), Integer(2)]), None),
-    (Tag(1, &Map(&[])), None),
-};
-
-fn are_maps(alloc: Global, rows: &[(Literal, Option<&[Pair]>)]) -> Result<(), Fail> {
-    for (literal, want) in rows {
+fn values_are_taken_out(rt: HostRuntime) -> Result<(), Fail> {
+    let alloc = rt.alloc();
+    for (name, literal, want) in LOOKED_INTO {
         let value = literal.to_value(alloc)?;
-        if !is_map(alloc, value.as_map(), *want)? {
-            return Err(Fail::new(format_args!("{:?} of {value:?}", value.as_map())));
+        let found = look_into(alloc, name, &value)?;
+        if found.as_str() != *want {
+            return Err(Fail::new(format_args!("{name} of {value:?} is {}", found.as_str())));
         }
     }
     Ok(())
-}
-
-fn is_map(
-    alloc: Global,
-    found: Option<&[(Value, Value)]>,
-    want: Option<&[Pair]>,
-) -> Result<bool, Fail> {
-    let (Some(found), Some(want)) = (found, want) else {
-        return Ok(found.is_none() && want.is_none());
-    };
-    for (pair, literal) in found.iter().zip(want) {
-        if pair.0 != literal.0.to_value(alloc)? || pair.1 != literal.1.to_value(alloc)? {
-            return Ok(false);
-        }
-    }
-    Ok(found.len() == want.len())
-}
-
-#[test]
-fn maps_are_taken_out(rt: HostRuntime) -> Result<(), Fail> {
-    are_maps(rt.alloc(), MAPS)
-}
-
-const TAGS: &[(Literal, Option<(u64, Literal)>)] = table! {
-    (Tag(0, &Text("2013-03-21T20:04:00Z")), Some((0, Text("2013-03-21T20:04:00Z")))),
-    (Tag(u64::MAX, &Tag(1, &Null)), Some((u64::MAX, Tag(1, &Null)))),
-    (Integer(1), None),
-    (Integer(18446744073709551616), None),
-    (Array(&[Tag(1, &Null)]), None),
-};
-
-fn are_tags(alloc: Global, rows: &[(Literal, Option<(u64, Literal)>)]) -> Result<(), Fail> {
-    for (literal, want) in rows {
-        let value = literal.to_value(alloc)?;
-        if !is_tag(alloc, value.as_tag(), want)? {
-            return Err(Fail::new(format_args!("{:?} of {value:?}", value.as_tag())));
-        }
-    }
-    Ok(())
-}
-
-fn is_tag(
-    alloc: Global,
-    found: Option<(u64, &Value)>,
-    want: &Option<(u64, Literal)>,
-) -> Result<bool, Fail> {
-    match (found, want) {
-        (Some((number, inner)), Some((tag, literal))) => {
-            Ok(number == *tag && *inner == literal.to_value(alloc)?)
-        }
-        (None, None) => Ok(true),
-        _ => Ok(false),
-    }
-}
-
-#[test]
-fn tags_are_taken_out(rt: HostRuntime) -> Result<(), Fail> {
-    are_tags(rt.alloc(), TAGS)
 }
 
 // A value, a key, and what stands under it.

@@ -3,8 +3,8 @@
 //! Rows that hold of `RawValue` alike stand in `raw.rt`, and what skipping rejects in
 //! `decode_value/errors.rt`.
 use crate::ignored::ITEMS;
-use crate::kept::{Copied, ITEM, MAP, wanted};
 use crate::literal::Literal::{self, Integer, Null};
+use crate::plain_raw::{Copied, ITEM, MAP, wanted};
 use cbor4ii_items::decode::Decode;
 use cbor4ii_items::types::Map;
 use cbor4ii_rw::error::{DecodeError, Never};

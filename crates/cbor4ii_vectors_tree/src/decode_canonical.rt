@@ -49,10 +49,7 @@ const REJECTED: &[Rejected] = table! {
     (b"\xdb\x00\x00\x00\x00\x00\x00\x00\x2a\x00", OTHER, b"\x00"),
     (b"\x82\xf6\xf7\x00", OTHER, b"\x00"),
     (b"\xa1\x18\x17\x00", OTHER, b"\x00"),
-};
-
-// A head of each width that is as short as can be, with no byte after it, and one that is longer.
-const HEADS: &[Rejected] = table! {
+    // A head of each width that is as short as can be, with no byte after it, and one that is longer.
     (b"\x97", eof!("value", 1), b""),
     (b"\x98\x18", eof!("value", 1), b""),
     (b"\x98\xff", eof!("value", 1), b""),
@@ -115,11 +112,6 @@ fn rejects(
 #[test]
 fn other_encodings_are_rejected(rt: HostRuntime) -> Result<(), Fail> {
     rejects_rows(rt.alloc(), REJECTED)
-}
-
-#[test]
-fn heads_of_each_width(rt: HostRuntime) -> Result<(), Fail> {
-    rejects_rows(rt.alloc(), HEADS)
 }
 
 // 255 tags, and these bytes after them.

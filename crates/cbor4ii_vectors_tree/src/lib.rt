@@ -1,5 +1,6 @@
-//! Rows of whole items: each file tests the file of its name in `cbor4ii_tree`. What several of
-//! them share stands in `item`, `item_rows`, `kept` and `literal`.
+//! Rows of whole items: a file tests the file of its name in `cbor4ii_tree`. Hashes are tested in
+//! `order`, `from.rt` in `value`, and pairs of texts in `equal_keys`. What several files share
+//! stands in `item`, `item_rows`, `plain_raw` and `literal`.
 //!
 //! Files of that crate with nothing public have none here:
 //! - `leaf.rt`, `run.rt`, `simple.rt` and `slot.rt` are called by `Value` and `Canonical`
@@ -27,17 +28,11 @@ mod encode_value;
 #[cfg(test)]
 mod equal_keys;
 #[cfg(test)]
-mod from;
-#[cfg(test)]
-mod hash;
-#[cfg(test)]
 mod ignored;
 #[cfg(test)]
 mod item;
 #[cfg(test)]
 mod item_rows;
-#[cfg(test)]
-mod kept;
 #[cfg(test)]
 mod laws;
 #[cfg(test)]
@@ -50,8 +45,6 @@ mod plain_raw;
 mod raw;
 #[cfg(test)]
 mod raw_parts;
-#[cfg(test)]
-mod text_pairs;
 #[cfg(test)]
 mod value;
 #[cfg(test)]

@@ -3,7 +3,7 @@
 //! Rows that hold of `BoxedRawValue` alike are tried of both here. What skipping rejects is
 //! rejected of both in `decode_value/errors.rt`.
 use crate::ignored::ITEMS;
-use crate::kept::{BytesOf, Copied, ITEM, Lent, MAP, UnderKey, wanted};
+use crate::plain_raw::{BytesOf, Copied, ITEM, Lent, MAP, UnderKey, wanted};
 use cbor4ii_items::decode::Decode;
 use cbor4ii_items::types::Map;
 use cbor4ii_rw::error::{DecodeError, Len, WholeError};

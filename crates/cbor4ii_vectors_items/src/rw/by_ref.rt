@@ -1,6 +1,6 @@
 //! Readers and writers after references.
+use crate::rw::read::WANTED_OF_ABC;
 use crate::rw::shown::{gives, shows_each};
-use crate::rw::slice_reader::WANTED_OF_ABC;
 use cbor4ii_items::decode::Decode;
 use cbor4ii_items::encode::Encode;
 use cbor4ii_rw::ask::lend;

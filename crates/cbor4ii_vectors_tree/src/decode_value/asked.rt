@@ -28,7 +28,7 @@ type Looks = (usize, usize, usize, usize);
 // value, and of one in its canonical encoding.
 type Row = (&'static [u8], &'static [u8], usize, usize, Looks, Looks);
 
-const LEAVES: &[Row] = table! {
+const ASKED: &[Row] = table! {
     (b"\xf6", b"", 0, 1, (1, 1, 1, 1), (1, 1, 1, 1)),
     (b"\xf5", b"", 0, 1, (1, 1, 1, 1), (1, 1, 1, 1)),
     (b"\x00", b"", 0, 1, (2, 2, 1, 2), (3, 3, 1, 3)),
@@ -46,9 +46,6 @@ const LEAVES: &[Row] = table! {
     (b"\x70", b"a", 16, 16, (3, 18, 1, 18), (4, 19, 1, 19)),
     (b"\x78\x1e", b"a", 30, 30, (4, 35, 1, 34), (5, 36, 1, 35)),
     (b"\x59\x01\x2c", b"a", 300, 300, (4, 306, 1, 305), (5, 307, 1, 306)),
-};
-
-const CONTAINERS: &[Row] = table! {
     (b"\x80", b"", 0, 1, (2, 2, 1, 2), (3, 3, 1, 3)),
     (b"\xa0", b"", 0, 1, (2, 2, 1, 2), (3, 3, 1, 3)),
     (b"\x81\x80", b"", 0, 1, (4, 4, 2, 4), (6, 6, 2, 6)),
@@ -64,9 +61,6 @@ const CONTAINERS: &[Row] = table! {
     (b"\xc1\x00", b"", 0, 1, (4, 4, 2, 4), (6, 6, 2, 6)),
     (b"\xd8\x18\x64IETF", b"", 0, 4, (6, 11, 2, 10), (8, 13, 2, 12)),
     (b"\xda\x00\x01\x00\x00\x80", b"", 0, 5, (5, 10, 2, 9), (7, 12, 2, 11)),
-};
-
-const MANY: &[Row] = table! {
     (b"\x98\xc8", b"\x00", 200, 2, (403, 405, 2, 404), (604, 606, 2, 605)),
     (b"\x98\xc8", b"\xf6", 200, 2, (203, 205, 2, 204), (204, 206, 2, 205)),
     (b"\x98\xc8", b"\x18\x18", 200, 2, (603, 1005, 2, 804), (804, 1206, 2, 1005)),
@@ -114,18 +108,8 @@ fn asks_rows(alloc: Global, rows: &[Row]) -> Result<(), Fail> {
 }
 
 #[test]
-fn leaves_are_asked_for(rt: HostRuntime) -> Result<(), Fail> {
-    asks_rows(rt.alloc(), LEAVES)
-}
-
-#[test]
-fn containers_are_asked_for(rt: HostRuntime) -> Result<(), Fail> {
-    asks_rows(rt.alloc(), CONTAINERS)
-}
-
-#[test]
-fn many_items_are_asked_for(rt: HostRuntime) -> Result<(), Fail> {
-    asks_rows(rt.alloc(), MANY)
+fn items_are_asked_for(rt: HostRuntime) -> Result<(), Fail> {
+    asks_rows(rt.alloc(), ASKED)
 }
 
 // Items of indefinite length, and what is no canonical encoding or no value: whether a value is

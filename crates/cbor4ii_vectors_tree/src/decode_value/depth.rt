@@ -23,9 +23,6 @@ const REJECTED: &[Rejected] = table! {
     (0xc1, 255, b"\x80", no_step!("array"), 1, None),
     (0xc1, 255, b"\x7f\x61\x61\xff", no_step!("str"), 3, Some(3)),
     (0xc1, 256, b"\x00", no_step!("value"), 1, Some(1)),
-};
-
-const REJECTED_BEFORE_MANY: &[Rejected] = table! {
     (0x81, 10000, b"", no_step!("value"), 9872, Some(9744)),
     (0x9f, 10000, b"", no_step!("value"), 9872, Some(9744)),
 };
@@ -85,11 +82,6 @@ fn rejects_rows(alloc: Global, rows: &[Rejected]) -> Result<(), Fail> {
 #[test]
 fn too_deep_items_are_rejected(rt: HostRuntime) -> Result<(), Fail> {
     rejects_rows(rt.alloc(), REJECTED)
-}
-
-#[test]
-fn rejected_before_many_bytes(rt: HostRuntime) -> Result<(), Fail> {
-    rejects_rows(rt.alloc(), REJECTED_BEFORE_MANY)
 }
 
 // So many bytes at the end of these.

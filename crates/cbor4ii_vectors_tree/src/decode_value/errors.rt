@@ -37,8 +37,8 @@ const NO_STEP: &str = no_step!("ignored-any");
 // Input that ends too early: the error of a value, and of skipping. Nothing is left.
 type CutOff = (&'static [u8], &'static str, &'static str);
 
-// Prefixes of an indefinite-length byte string of two chunks.
-const PREFIXES: &[CutOff] = table! {
+const CUT_OFF: &[CutOff] = table! {
+    // Prefixes of an indefinite-length byte string of two chunks.
     (b"", eof!("value", 1), eof!("ignored-any", 1)),
     (b"\x5f", eof!("break", 1), eof!("break", 1)),
     (b"\x5f\x42", eof!("bytes", 2), eof!("ignored-any", 2)),
@@ -48,10 +48,7 @@ const PREFIXES: &[CutOff] = table! {
     (b"\x5f\x42\x01\x02\x43\x03", eof!("bytes", 2), eof!("ignored-any", 2)),
     (b"\x5f\x42\x01\x02\x43\x03\x04", eof!("bytes", 1), eof!("ignored-any", 1)),
     (b"\x5f\x42\x01\x02\x43\x03\x04\x05", eof!("break", 1), eof!("break", 1)),
-};
-
-// Prefixes of integers and of other strings.
-const LEAVES: &[CutOff] = table! {
+    // Prefixes of integers and of other strings.
     (b"\x18", eof!("u64", 1), eof!("ignored-any", 1)),
     (b"\x19\x00", eof!("u64", 2), eof!("ignored-any", 1)),
     (b"\x1a\x86", eof!("u64", 4), eof!("ignored-any", 3)),
@@ -75,10 +72,7 @@ const LEAVES: &[CutOff] = table! {
     (b"\x7f", eof!("break", 1), eof!("break", 1)),
     (b"\x7f\x61\xff", eof!("break", 1), eof!("break", 1)),
     (b"\x7f\x62\xc3", eof!("str", 1), eof!("ignored-any", 1)),
-};
-
-// Prefixes of arrays and maps, and of what begins with a greater byte.
-const CONTAINERS: &[CutOff] = table! {
+    // Prefixes of arrays and maps, and of what begins with a greater byte.
     (b"\x81\x62\xff", eof!("str", 1), eof!("ignored-any", 1)),
     (b"\x82\x01\x62\x61", eof!("str", 1), eof!("ignored-any", 1)),
     (b"\x83\x01\x02", eof!("value", 1), eof!("ignored-any", 1)),
@@ -119,7 +113,7 @@ type Rejected = (
     &'static [u8],
 );
 
-const REJECTED_LEAVES: &[Rejected] = table! {
+const REJECTED: &[Rejected] = table! {
     (b"\x1c\x00", mismatch!("u64", 0x1c), b"\x00", SKIPPED_1C, b"\x1c\x00"),
     (b"\x1e", mismatch!("u64", 0x1e), b"", mismatch!("ignored-any", 0x1e), b"\x1e"),
     (b"\x3c\x00", mismatch!("-u64", 0x3c), b"\x00", SKIPPED_3C, b"\x3c\x00"),
@@ -137,9 +131,6 @@ const REJECTED_LEAVES: &[Rejected] = table! {
     (b"\x7e\x61", mismatch!("str", 0x7e), b"\x61", mismatch!("ignored-any", 0x7e), b"\x61"),
     (b"\x7f\x01", mismatch!("str", 0x01), b"", eof!("break", 1), b""),
     (b"\x7f\x61\xff\x1c", mismatch!("str", 0x1c), b"", SKIPPED_1C, b"\x1c"),
-};
-
-const REJECTED_CONTAINERS: &[Rejected] = table! {
     (b"\x81\xff", READ_BREAK, b"\xff", SKIPPED_BREAK, b"\xff"),
     (b"\x82\x00\xf3", READ_F3, b"\xf3", SKIPPED_F3, b"\xf3"),
     (b"\x82\x1c\x00", mismatch!("u64", 0x1c), b"\x00", SKIPPED_1C, b"\x1c\x00"),
@@ -158,9 +149,6 @@ const REJECTED_CONTAINERS: &[Rejected] = table! {
     (b"\xbf\x01\xff", READ_BREAK, b"\xff", SKIPPED_BREAK, b"\xff"),
     (b"\xbf\x5f\xff\xff", READ_BREAK, b"\xff", SKIPPED_BREAK, b"\xff"),
     (b"\xbf\x81\xff\xff", READ_BREAK, b"\xff\xff", SKIPPED_BREAK, b"\xff\xff"),
-};
-
-const REJECTED_OTHERS: &[Rejected] = table! {
     (b"\xc1\xdf\x00", mismatch!("tag", 0xdf), b"\x00", mismatch!("tag", 0xdf), b"\x00"),
     (b"\xc1\xff", READ_BREAK, b"\xff", SKIPPED_BREAK, b"\xff"),
     (b"\xdc\x00", mismatch!("tag", 0xdc), b"\x00", mismatch!("tag", 0xdc), b"\x00"),
@@ -213,7 +201,7 @@ const INDEFINITE_IN_INDEFINITE: &[u8] = b"\x5f\x5f\x00\xff\xff";
 // The head of an array of one item, in nine bytes.
 const LONG_HEAD: &[u8] = b"\x9b\x00\x00\x00\x00\x00\x00\x00\x01";
 
-const LEAVES_WITHIN: &[RejectedWithin] = table! {
+const REJECTED_WITHIN: &[RejectedWithin] = table! {
     (b"", 0, no_step!("value"), b"", NO_STEP, b""),
     (b"", 1, eof!("value", 1), b"", eof!("ignored-any", 1), b""),
     (b"\x00", 0, no_step!("value"), b"\x00", NO_STEP, b"\x00"),
@@ -235,9 +223,6 @@ const LEAVES_WITHIN: &[RejectedWithin] = table! {
     (b"\x7f\x61\xc3\x61", 2, eof!("str", 1), b"", eof!("ignored-any", 1), b""),
     (b"\x7f\x78", 1, no_step!("str"), b"\x78", NO_STEP, b"\x78"),
     (b"\x7f\x78", 2, eof!("str", 1), b"", eof!("ignored-any", 1), b""),
-};
-
-const CONTAINERS_WITHIN: &[RejectedWithin] = table! {
     (b"\x81", 2, no_step!("value"), b"", eof!("ignored-any", 1), b""),
     (b"\x81", 3, eof!("value", 1), b"", eof!("ignored-any", 1), b""),
     (b"\x81\x00", 1, no_step!("array"), b"\x81\x00", NO_STEP, b"\x00"),
@@ -265,9 +250,6 @@ const CONTAINERS_WITHIN: &[RejectedWithin] = table! {
     (b"\xbf\x00\x01\xff", 1, no_step!("map"), b"\xbf\x00\x01\xff", NO_STEP, b"\x00\x01\xff"),
     (b"\xbf\x00\xff", 2, no_step!("value"), b"\x00\xff", SKIPPED_BREAK, b"\xff"),
     (b"\xbf\x00\xff", 3, READ_BREAK, b"\xff", SKIPPED_BREAK, b"\xff"),
-};
-
-const OTHERS_WITHIN: &[RejectedWithin] = table! {
     (b"\xc1", 1, no_step!("value"), b"", NO_STEP, b""),
     (b"\xc1", 2, eof!("value", 1), b"", eof!("ignored-any", 1), b""),
     (b"\xc1\x00", 1, no_step!("value"), b"\x00", NO_STEP, b"\x00"),
@@ -339,15 +321,8 @@ fn cuts_off(alloc: Global, rows: &[CutOff]) -> Result<(), Fail> {
 }
 
 #[test]
-fn cut_off_leaves(rt: HostRuntime) -> Result<(), Fail> {
-    let alloc = rt.alloc();
-    cuts_off(alloc, PREFIXES)?;
-    cuts_off(alloc, LEAVES)
-}
-
-#[test]
-fn cut_off_containers(rt: HostRuntime) -> Result<(), Fail> {
-    cuts_off(rt.alloc(), CONTAINERS)
+fn cut_off_items(rt: HostRuntime) -> Result<(), Fail> {
+    cuts_off(rt.alloc(), CUT_OFF)
 }
 
 fn rejects_rows(alloc: Global, rows: &[Rejected]) -> Result<(), Fail> {
@@ -359,18 +334,8 @@ fn rejects_rows(alloc: Global, rows: &[Rejected]) -> Result<(), Fail> {
 }
 
 #[test]
-fn rejected_leaves(rt: HostRuntime) -> Result<(), Fail> {
-    rejects_rows(rt.alloc(), REJECTED_LEAVES)
-}
-
-#[test]
-fn rejected_containers(rt: HostRuntime) -> Result<(), Fail> {
-    rejects_rows(rt.alloc(), REJECTED_CONTAINERS)
-}
-
-#[test]
-fn rejected_tags_and_simple_values(rt: HostRuntime) -> Result<(), Fail> {
-    rejects_rows(rt.alloc(), REJECTED_OTHERS)
+fn rejected_items(rt: HostRuntime) -> Result<(), Fail> {
+    rejects_rows(rt.alloc(), REJECTED)
 }
 
 fn skips_rows(alloc: Global, rows: &[Skipped]) -> Result<(), Fail> {
@@ -403,18 +368,8 @@ fn skips_rows_within(alloc: Global, rows: &[SkippedWithin]) -> Result<(), Fail> 
 }
 
 #[test]
-fn leaves_within_a_limit(rt: HostRuntime) -> Result<(), Fail> {
-    rejects_rows_within(rt.alloc(), LEAVES_WITHIN)
-}
-
-#[test]
-fn containers_within_a_limit(rt: HostRuntime) -> Result<(), Fail> {
-    rejects_rows_within(rt.alloc(), CONTAINERS_WITHIN)
-}
-
-#[test]
-fn tags_and_simple_values_within_a_limit(rt: HostRuntime) -> Result<(), Fail> {
-    rejects_rows_within(rt.alloc(), OTHERS_WITHIN)
+fn rejected_within_a_limit(rt: HostRuntime) -> Result<(), Fail> {
+    rejects_rows_within(rt.alloc(), REJECTED_WITHIN)
 }
 
 #[test]

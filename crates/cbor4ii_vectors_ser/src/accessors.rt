@@ -1,54 +1,11 @@
-//! Arrays and maps that are written part by part, of a known and of an indefinite length.
+//! What an accessor says of itself while it writes, and after a part that is rejected.
 use crate::tagged::{has_written, is_rejected, tagged};
-use crate::typed::{Put, Typed};
 use cbor4ii_rw::buf_writer::BufWriter;
 use cbor4ii_rw::error::TryReserveError;
-use cbor4ii_rw::write::Write;
 use cbor4ii_ser::error::EncodeError;
 use cbor4ii_ser::serializer::Serializer;
 use cbor4ii_tree::Value;
-use cbor4ii_vectors::rows::writes;
 use std::test::Fail;
-
-/// Arrays of one item, whose length is indefinite, and then known.
-#[derive(Drop)]
-struct Arrays;
-
-impl Put for Arrays {
-    fn put<W: Write>(&self, ser: &mut Serializer<W>) -> Result<(), EncodeError<W::Error>> {
-        let mut items = ser.serialize_seq(None)?;
-        items.serialize_element(&1u8)?;
-        items.end()?;
-        let mut items = ser.serialize_seq(Some(1))?;
-        items.serialize_element(&2u8)?;
-        items.end()
-    }
-}
-
-/// A map whose length is indefinite.
-#[derive(Drop)]
-struct IndefiniteMap;
-
-impl Put for IndefiniteMap {
-    fn put<W: Write>(&self, ser: &mut Serializer<W>) -> Result<(), EncodeError<W::Error>> {
-        let mut entries = ser.serialize_map(None)?;
-        entries.serialize_key(&3u8)?;
-        entries.serialize_value(&4u8)?;
-        entries.serialize_entry(&5u8, &6u8)?;
-        entries.end()
-    }
-}
-
-#[test]
-fn arrays_and_maps_part_by_part(rt: HostRuntime) -> Result<(), Fail> {
-    writes(rt.alloc(), &Typed(Arrays), b"\x9f\x01\xff\x81\x02")?;
-    writes(
-        rt.alloc(),
-        &Typed(IndefiniteMap),
-        b"\xbf\x03\x04\x05\x06\xff",
-    )?;
-    Ok(())
-}
 
 type Says = Result<bool, EncodeError<TryReserveError>>;
 
@@ -96,4 +53,47 @@ fn what_a_collect_says_after_a_tag(rt: HostRuntime) -> Result<(), Fail> {
     assert!(rt; an_array_wants_it(&mut ser, &value)?);
     assert!(rt; a_map_wants_it(&mut ser, &value)?);
     has_written(ser, b"\x82\x01\xa1\x01")
+}
+
+fn a_struct_says(ser: &mut Serializer<BufWriter>) -> Result<bool, EncodeError<TryReserveError>> {
+    let mut fields = ser.serialize_struct("Struct", 2)?;
+    let at_first = fields.left() == 2 && fields.keyed();
+    fields.serialize_field("a", &1u8)?;
+    let after_one = fields.left() == 1 && fields.keyed();
+    fields.serialize_field("b", &2u8)?;
+    Ok(at_first && after_one && fields.left() == 0 && fields.keyed())
+}
+
+fn a_tuple_says(ser: &mut Serializer<BufWriter>) -> Result<bool, EncodeError<TryReserveError>> {
+    let mut items = ser.serialize_tuple(2)?;
+    let at_first = items.left() == 2 && !items.keyed();
+    items.serialize_element(&1u8)?;
+    let after_one = items.left() == 1 && !items.keyed();
+    items.serialize_element(&2u8)?;
+    Ok(at_first && after_one && items.left() == 0 && !items.keyed())
+}
+
+#[test]
+fn what_a_struct_says_of_itself(rt: HostRuntime) -> Result<(), Fail> {
+    let mut ser = Serializer::new(BufWriter::new(Vec::new(rt.alloc())));
+    assert!(rt; a_struct_says(&mut ser)?);
+    assert!(rt; a_tuple_says(&mut ser)?);
+    has_written(ser, b"\xa2\x61a\x01\x61b\x02\x82\x01\x02")?;
+    Ok(())
+}
+
+// Whether a struct whose only field is rejected still wants that field.
+fn a_struct_wants_it(ser: &mut Serializer<BufWriter>, tagged: &Value) -> Result<bool, Fail> {
+    let mut fields = ser.serialize_struct("Struct", 1)?;
+    is_rejected(fields.serialize_field("a", tagged))?;
+    Ok(fields.left() == 1)
+}
+
+#[test]
+fn what_a_struct_says_after_a_tag(rt: HostRuntime) -> Result<(), Fail> {
+    let alloc = rt.alloc();
+    let value = tagged(alloc)?;
+    let mut ser = Serializer::new(BufWriter::new(Vec::new(alloc)));
+    assert!(rt; a_struct_wants_it(&mut ser, &value)?);
+    has_written(ser, b"\xa1\x61a")
 }
