@@ -92,8 +92,8 @@ where
         + ReadBy<Stream>,
 {}
 
-/// Calls that differ by their names, so that one table has rows of several of them, and one function
-/// is proved for all.
+/// Calls that differ by their names, so that one table has rows of several of them, and one
+/// function is proved for all.
 pub trait Calls {
     /// The `Debug` text of what the call of this name reads from the beginning of what `reader` has
     /// left. Of a name that is none of a call nothing is read, and the answer is an error.

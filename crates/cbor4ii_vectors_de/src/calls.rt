@@ -148,7 +148,8 @@ const READ: &[Called] = table! {
     ("unsigned", b"\xf4\x01\x02\x03\x04\x05\x20", Ok("(false, 1, 2, 3, 4, 5)"), b"\x20"),
     ("signed", b"\x20\x21\x22\x23\x24", Ok("(-1, -2, -3, -4, -5)"), b""),
     // 0x3c00, 0x7f800000 and 0x7ff0000000000000.
-    ("floats and units", FLOATS, Ok("(F16(15360), F32(2139095040), F64(9218868437227405312))"), b""),
+    ("floats and units", FLOATS,
+        Ok("(F16(15360), F32(2139095040), F64(9218868437227405312))"), b""),
     ("option", b"", Err(eof!("option", 1)), b""),
     ("option", b"\x20\x06", Err(mismatch!("u8", 0x20)), b"\x06"),
     ("is some", b"\x05", Ok("true"), b"\x05"),

@@ -49,7 +49,8 @@ const REJECTED: &[Rejected] = table! {
     (b"\xdb\x00\x00\x00\x00\x00\x00\x00\x2a\x00", OTHER, b"\x00"),
     (b"\x82\xf6\xf7\x00", OTHER, b"\x00"),
     (b"\xa1\x18\x17\x00", OTHER, b"\x00"),
-    // A head of each width that is as short as can be, with no byte after it, and one that is longer.
+    // A head of each width that is as short as can be, with no byte after it, and one that is
+    // longer.
     (b"\x97", eof!("value", 1), b""),
     (b"\x98\x18", eof!("value", 1), b""),
     (b"\x98\xff", eof!("value", 1), b""),
