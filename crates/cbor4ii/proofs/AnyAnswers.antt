@@ -1,7 +1,7 @@
 -- What reading any item as a value answers, by its parts.
 use Rattle.std.proofs.Common.{◌≡◌, ◌<◌, ◌≤◌, ◌^◌, inl, inr, ℕ, pos, suc, List, [], ◌∷◌, take, drop}
-use Rattle.std.proofs.Common.{true, Option, Result, Ok, Err, IsTrue, refl, sym, ap, subst, ◌∙◌}
-use Rattle.std.proofs.Common.{arith}
+use Rattle.std.proofs.Common.{true, Option, Result, Ok, Err, refl, sym, ap, subst}
+use Rattle.std.proofs.Common.{arith, rules}
 use Rattle.std.specs.Prelude.{codes}
 use Rattle.std.proofs.lemmas.Int.{to_z-of_z}
 use denote.Ref.{Bor}
@@ -11,29 +11,27 @@ use Rattle.cbor4ii_rw.specs.View.{View}
 use Rattle.cbor4ii_rw.specs.declared.error.DecodeError.{DecodeError}
 use Rattle.cbor4ii_rw.specs.declared.error.DecodeError.TheVariants.{Custom, Unsupported}
 use Rattle.cbor4ii_items.specs.Decoding.{Reads, RejectsAt, Sound, NoneRead, Complete}
-use Rattle.cbor4ii_items.specs.Budget.{CostFits}
 use Rattle.cbor4ii_items.specs.Decoding.{Rejects}
 use Rattle.cbor4ii_items.specs.Decoding.{Format, IsLawful, Decodes, leaf_format}
 use Rattle.cbor4ii_items.specs.Moves.{Kept}
 use Rattle.cbor4ii_items.specs.Next.{next_format}
 use Rattle.cbor4ii_items.specs.Numbers.{ReadsU128, RejectsU128}
-use Rattle.cbor4ii_items.specs.InputError.{InputError, input_error_of, unsupported}
+use Rattle.cbor4ii_items.specs.InputError.{InputError, input_error_of}
 use Rattle.cbor4ii_items.specs.Sequences.{RejectsPlace, no_byte, may_read_nothing, part_rejected}
 use Rattle.cbor4ii_items.specs.Sequences.{RejectsInside, length_rejected, definite_rejected}
 use Rattle.cbor4ii_items.specs.Sequences.{indefinite_rejected, RejectsPair, ReadsPair}
 use Rattle.cbor4ii_items.specs.Laws.Bignums.{u128_one}
-use Rattle.cbor4ii_items.specs.Laws.Calls.{err, ok_after, err_after, of_exact, decodes_exactly}
-use Rattle.cbor4ii_items.specs.Laws.Running.{kept_alike}
+use Rattle.cbor4ii_items.specs.Laws.Calls.{ok_after, err_after, of_exact, decodes_exactly}
 use Rattle.cbor4ii_items.specs.Laws.Sequences.{pair_lawful}
 use Rattle.cbor4ii_tree.specs.declared.value.Value.{Value}
 use Rattle.cbor4ii.specs.declared.serde.de.any_leaf.AnyKind.{AnyKind}
 use Rattle.cbor4ii.specs.declared.serde.de.any_leaf.AnyKind.TheVariants.{Leaf, Array, Map, Other}
 use Rattle.cbor4ii.specs.declared.serde.de.any_leaf.AnyLeaf.{AnyLeaf}
 use Rattle.cbor4ii.specs.declared.serde.de.any_leaf.AnyLeaf.TheVariants.{Bignum}
-use Rattle.cbor4ii.specs.Any.{kind, Formed, ReadsSmallU128, of_bignum, of_array, of_map, KindAs}
+use Rattle.cbor4ii.specs.Any.{kind, Formed, ReadsSmallU128, of_bignum, KindAs}
 use Rattle.cbor4ii.specs.Any.{AnyInside, ReadsAny}
 use Rattle.cbor4ii.specs.AnyFormat.{any_format, any_inside, kind_format, formed_format}
-use Rattle.cbor4ii.specs.AnyFormat.{any_leaf, values_format, any_pair, pairs_format}
+use Rattle.cbor4ii.specs.AnyFormat.{any_leaf, any_pair}
 use Rattle.cbor4ii.specs.AnyRejects.{RejectsBignum, KindRejects, AnyRejects, AnyRejectsAt}
 use Rattle.cbor4ii.specs.AnyRejects.{RejectsAny}
 use Rattle.cbor4ii.specs.Laws.Any.{any_laws, any_of_inside, inside_of_any}
@@ -42,7 +40,7 @@ use Rattle.cbor4ii.specs.Stepped.{RejectsStepped, stepped_format}
 use Rattle.cbor4ii.specs.Typed.{lawful_as, no_number}
 use Rattle.cbor4ii.proofs.Looking.{Saw, none_begins}
 use Rattle.cbor4ii_tree.specs.declared.value.Value as values
-use Rattle.cbor4ii.proofs.Forms.{sound_by, err_here, found_here}
+use Rattle.cbor4ii.proofs.Forms.{sound_by, err_here, found_here, ReadAs, as_read}
 
 pub any_lawful : IsLawful any_format
 any_lawful = lawful_as any_laws
@@ -52,69 +50,9 @@ pair_is_lawful = pair_lawful any_format any_format any_lawful any_lawful
 
 -- ---- what is read of one type, read as another
 
--- the same bytes are read and rejected of both
-pub record Means {U V : Type 0} (s : Format U) (t : Format V) (form : U → V) : Type 0 where
-  pub to : (xs : List ℕ) (u : U) (n c : ℕ) → s.reads xs u n c → t.reads xs (form u) n c
-  pub from : (xs : List ℕ) (v : V) (n c : ℕ) → t.reads xs v n c → (u : U) × s.reads xs u n c
-  pub rejects : (xs : List ℕ) (budget : Option ℕ) (z : InputError) (ys : List ℕ)
-      → s.rejects xs budget z ys → t.rejects xs budget z ys
-  pub begins : (xs : List ℕ) (budget : Option ℕ) (z : InputError) (ys : List ℕ)
-      → s.begins xs budget z ys → t.begins xs budget z ys
-  pub some : IsTrue t.never_empty → IsTrue s.never_empty
-  pub owned : IsTrue t.owned → IsTrue s.owned
-  pub memory : IsTrue s.takes_memory → IsTrue t.takes_memory
-
-module _ {U V E : Type 0} (s : Format U) (t : Format V) (form : U → V) (m : Means s t form)
-    {a b : View} where
-  pub as_ok : {u : U} → Decodes {E = E} s a b (Ok u) → Decodes {E = E} t a b (Ok (form u))
-  as_ok {u = u} d =
-      ok_after s t (kept_alike a) (λ xs known. (
-        xs,
-        known,
-        λ n c r fits. found_here n c (m.to xs u n c r) fits,
-      )) (λ some. d.progress (m.some some)) d
-
-  pub as_err : {e : DecodeError E} → Decodes s a b (Err e) → Decodes t a b (Err e)
-  as_err d =
-      decodes_exactly (err_here s t (λ xs. record {
-        none = λ is none v n c r fits. (let u = m.from xs v n c r in none u.0 n c u.1 fits);
-        rejects = m.rejects xs a.budget;
-        begins = m.begins xs a.budget;
-      }) m.owned m.memory (of_exact d))
-
 pub formed : {W : Type 0} (form : W → Value) (s : Format W)
-    → Means s (formed_format form s) form
-formed form s = record {
-  to = λ xs w n c r. (w, r, refl);
-  from = λ xs v n c r. (r.0, r.1);
-  rejects = λ xs budget z ys h. h;
-  begins = λ xs budget z ys h. h;
-  some = λ some. some;
-  owned = λ owned. owned;
-  memory = λ takes. takes;
-}
-
-pub an_array : Means values_format (kind_format Array) of_array
-an_array = record {
-  to = λ xs w n c r. (w, r, refl);
-  from = λ xs v n c r. (r.0, r.1);
-  rejects = λ xs budget z ys h. h;
-  begins = λ xs budget z ys h. h;
-  some = λ some. some;
-  owned = λ owned. owned;
-  memory = λ takes. takes;
-}
-
-pub a_map : Means pairs_format (kind_format Map) of_map
-a_map = record {
-  to = λ xs w n c r. (w, r, refl);
-  from = λ xs v n c r. (r.0, r.1);
-  rejects = λ xs budget z ys h. h;
-  begins = λ xs budget z ys h. h;
-  some = λ some. some;
-  owned = λ owned. owned;
-  memory = λ takes. takes;
-}
+    → ReadAs s (formed_format form s) form
+formed form s = search rules
 
 -- ---- however deep the rejected item stands
 
@@ -148,68 +86,47 @@ module _ {P : Type 0} (name : List ℕ) (major : ℕ) (reads : Reads P) (rejects
         }),
       )
   inside_in xs budget z ys (indefinite_rejected e s) =
-      let r = place_in (drop s.between (drop 1 xs)) budget z ys s.stop in (
-        r.0,
-        indefinite_rejected e (record {
-          whole = s.whole;
-          allowed = s.allowed;
-          between = s.between;
-          cost = s.cost;
-          parts = s.parts;
-          fits = s.fits;
-          stop = r.1;
-        }),
-      )
+      search (rules, place_in, indefinite_rejected)
 
-pair_in : (xs : List ℕ) (budget : Option ℕ) (z : InputError) (ys : List ℕ)
-    → RejectsPair ReadsAny RejectsAny RejectsAny xs budget z ys
-    → (k : ℕ) × RejectsPair ReadsAny (AnyRejectsAt k) (AnyRejectsAt k) xs budget z ys
-pair_in xs budget z ys (inl s) = (s.0, inl s.1)
-pair_in xs budget z ys (inr s) = (
-  s.stop.0,
-  inr (record {
-    whole = s.whole;
-    size = s.size;
-    cost = s.cost;
-    key = s.key;
-    fits = s.fits;
-    stop = s.stop.1;
-  }),
-)
+module _ (f : RejectsAt) (to : ℕ → RejectsAt)
+    (bound : (xs : List ℕ) (budget : Option ℕ) (z : InputError) (ys : List ℕ)
+    → f xs budget z ys → (k : ℕ) × to k xs budget z ys) where
+  pair_in : (xs : List ℕ) (budget : Option ℕ) (z : InputError) (ys : List ℕ)
+      → RejectsPair ReadsAny f f xs budget z ys
+      → (k : ℕ) × RejectsPair ReadsAny (to k) (to k) xs budget z ys
+  pair_in xs budget z ys (inl s) = let r = bound xs budget z ys s in (r.0, inl r.1)
+  pair_in xs budget z ys (inr s) = search (rules, inr)
 
-kind_in : (k : AnyKind) (xs : List ℕ) (budget : Option ℕ) (z : InputError) (ys : List ℕ)
-    → KindRejects RejectsAny k xs budget z ys → (j : ℕ) × KindRejects (AnyRejectsAt j) k xs
-    budget z ys
-kind_in (Leaf leaf) xs budget z ys h = (0, h)
-kind_in Array xs budget z ys (inl h) = (0, inl h)
-kind_in Array xs budget z ys (inr h) =
-    let r =
-    inside_in (codes "array") 4 ReadsAny RejectsAny AnyRejectsAt (λ ys b y zs s. s) xs _ z ys h.1 in
-    (r.0, inr (h.0, r.1))
-kind_in Map xs budget z ys (inl h) = (0, inl h)
-kind_in Map xs budget z ys (inr h) =
-    let r = inside_in (codes "map") 5 (ReadsPair ReadsAny ReadsAny)
-    (RejectsPair ReadsAny RejectsAny RejectsAny)
-    (λ k. RejectsPair ReadsAny (AnyRejectsAt k) (AnyRejectsAt k)) pair_in xs _ z ys h.1 in
-    (r.0, inr (h.0, r.1))
-kind_in Other xs budget z ys h = (0, h)
+  kind_in : (k : AnyKind) (xs : List ℕ) (budget : Option ℕ) (z : InputError) (ys : List ℕ)
+      → KindRejects f k xs budget z ys → (j : ℕ) × KindRejects (to j) k xs budget z ys
+  kind_in (Leaf leaf) xs budget z ys h = (0, h)
+  kind_in Array xs budget z ys (inl h) = (0, inl h)
+  kind_in Array xs budget z ys (inr h) =
+      let r = inside_in (codes "array") 4 ReadsAny f to bound xs _ z ys h.1 in (r.0, inr (h.0, r.1))
+  kind_in Map xs budget z ys (inl h) = (0, inl h)
+  kind_in Map xs budget z ys (inr h) =
+      let r = inside_in (codes "map") 5 (ReadsPair ReadsAny ReadsAny) (RejectsPair ReadsAny f f)
+      (λ k. RejectsPair ReadsAny (to k) (to k)) pair_in xs _ z ys h.1 in (r.0, inr (h.0, r.1))
+  kind_in Other xs budget z ys h = (0, h)
 
-after_in : (xs : List ℕ) (budget : Option ℕ) (z : InputError) (ys : List ℕ)
-    → AnyRejects RejectsAny xs budget z ys → (k : ℕ) × AnyRejects (AnyRejectsAt k) xs budget z ys
-after_in xs budget z ys (inl h) = (0, inl h)
-after_in xs budget z ys (inr h) =
-    let r = kind_in (kind h.0) xs budget z ys h.2 in (r.0, inr (h.0, h.1, r.1))
+  pub after_in : (xs : List ℕ) (budget : Option ℕ) (z : InputError) (ys : List ℕ)
+      → AnyRejects f xs budget z ys → (k : ℕ) × AnyRejects (to k) xs budget z ys
+  after_in xs budget z ys (inl h) = (0, inl h)
+  after_in xs budget z ys (inr h) =
+      let r = kind_in (kind h.0) xs budget z ys h.2 in (r.0, inr (h.0, h.1, r.1))
 
 any_in : (xs : List ℕ) (budget : Option ℕ) (z : InputError) (ys : List ℕ)
     → RejectsStepped (codes "any") (AnyRejects RejectsAny) xs budget z ys → RejectsAny xs
     budget z ys
 any_in xs budget z ys (inl h) = (1, inl h)
-any_in xs budget z ys (inr h) = let r = after_in xs _ z ys h.1 in (suc r.0, inr (h.0, r.1))
+any_in xs budget z ys (inr h) =
+    let r = after_in RejectsAny AnyRejectsAt (λ ys b y zs s. s) xs _ z ys h.1 in
+    (suc r.0, inr (h.0, r.1))
 
-any_means : Means (stepped_format (codes "any") any_inside) any_format (λ v. v)
+any_means : ReadAs (stepped_format (codes "any") any_inside) any_format (λ v. v)
 any_means = record {
-  to = any_of_inside;
-  from = λ xs v n c r. (v, inside_of_any xs v n c r);
+  reads = any_of_inside;
+  none = λ xs budget none v n c r fits. none v n c (inside_of_any xs v n c r) fits;
   rejects = any_in;
   begins = any_in;
   some = λ some. some;
@@ -219,20 +136,15 @@ any_means = record {
 
 pub any_of : {E : Type 0} (r : Result Value (DecodeError E)) {a b : View}
     → Decodes (stepped_format (codes "any") any_inside) a b r → Decodes any_format a b r
-any_of (Ok v) d = as_ok (stepped_format (codes "any") any_inside) any_format (λ w. w) any_means
-    d
-any_of (Err e) d = as_err (stepped_format (codes "any") any_inside) any_format (λ w. w)
-    any_means d
+any_of (Ok v) d = decodes_exactly (as_read any_means (Ok v) (of_exact d))
+any_of (Err e) d = decodes_exactly (as_read any_means (Err e) (of_exact d))
 
 -- ---- by the first byte
 
 none_of_kind : (xs : List ℕ) (first : ℕ) (k : AnyKind) (old mid : Option ℕ) → take 1 xs ≡ first ∷ []
     → k ≡ kind first → mid ≡ old → NoneRead (KindAs ReadsAny k) xs mid
     → NoneRead (AnyInside ReadsAny) xs old
-none_of_kind xs first k old mid e is same none v n c p fits =
-    let b : p.0 ≡ first = cc (p.1, e) in
-    none v n c (subst (λ k. KindAs ReadsAny k xs v n c) (ap kind b ∙ sym is) p.2)
-    (subst (CostFits c) (sym same) fits)
+none_of_kind xs first k old mid e is same none v n c p fits = search rules
 
 pub of_kind : {E : Type 0} (k : AnyKind) {a m b : View} {first : ℕ} → Kept a m → Saw a m first
     → k ≡ kind first → (r : Result Value (DecodeError E)) → Decodes (kind_format k) m b r
@@ -263,26 +175,7 @@ of_kind k {a = a} {first = first} kept s is (Err e) d =
 pub of_other : {E : Type 0} (name : Bor (List ℕ)) {a m : View} {first : ℕ} → Kept a m
     → name.now ≡ codes "any" → Saw a m first → Other ≡ kind first
     → Decodes {E = E} any_inside a m (Err (Unsupported name first))
-of_other name {a = a} {first = first} kept any s is =
-    err any_inside (record { by = kept; depth = λ none. refl }) (λ out. cc) (λ xs known. (
-    let f = s.first xs known in
-    let stop : AnyRejects RejectsAny xs a.budget (unsupported name.now first) xs =
-    inr (
-      first,
-      f.1,
-      subst
-          (λ j. KindRejects RejectsAny j xs a.budget (unsupported name.now first) xs) is
-          (first, f.1, ap (λ l. unsupported l first) any, refl),
-    ) in (
-      xs,
-      f.0,
-      record {
-        none = λ sure. none_of_kind xs first Other a.budget a.budget f.1 is refl
-            (λ v n c p fits. p);
-        rejects = stop;
-        begins = stop;
-      },
-    )))
+of_other name {a = a} {first = first} kept any s is = search (rules, inr, none_of_kind)
 
 -- no byte is left
 pub of_end : {E : Type 0} {a m : View} {e : DecodeError E}

@@ -1,10 +1,9 @@
 -- Any item that is read as a value is rejected with one error, however deep items nest.
-use Rattle.std.proofs.Common.{◌≡◌, ◌≤◌, inl, inr, ℕ, zero, suc, ◌+◌, List, [], ◌∷◌, take, drop}
-use Rattle.std.proofs.Common.{true, Option, None, sym, ap, subst, ◌∙◌, arith}
+use Rattle.std.proofs.Common.{◌≡◌, ◌≤◌, inl, inr, ℕ, zero, suc, ◌+◌, List, [], ◌∷◌, take}
+use Rattle.std.proofs.Common.{true, Option, None, sym, subst, ◌∙◌, arith, rules}
 use Rattle.std.specs.Prelude.{codes}
-use Rattle.cbor4ii_items.specs.Decoding.{Reads, RejectsAt, Format, format_by, leaf_format}
-use Rattle.cbor4ii_items.specs.Floats.{float_format}
-use Rattle.cbor4ii_items.specs.InputError.{InputError, unsupported}
+use Rattle.cbor4ii_items.specs.Decoding.{Reads, RejectsAt, Format, leaf_format}
+use Rattle.cbor4ii_items.specs.InputError.{InputError}
 use Rattle.cbor4ii_items.specs.Laws.Bignums.{u128_one}
 use Rattle.cbor4ii_items.specs.Laws.NumberErrors.{u128_error}
 use Rattle.cbor4ii_items.specs.Laws.NumbersApart.{u128_apart}
@@ -16,7 +15,7 @@ use Rattle.cbor4ii_items.specs.Laws.StringErrors.{as_once, text_once}
 use Rattle.cbor4ii_items.specs.NeverBoth.{NeverBoth}
 use Rattle.cbor4ii_items.specs.Numbers.{ReadsI128, RejectsI128}
 use Rattle.cbor4ii_items.specs.OneError.{OneError, RejectsOnce}
-use Rattle.cbor4ii_items.specs.Sequences.{in_vector, pair_format, ReadsPair, RejectsPair}
+use Rattle.cbor4ii_items.specs.Sequences.{in_vector, pair_format}
 use Rattle.cbor4ii_items.specs.Simple.{simple_format, bool_format}
 use Rattle.cbor4ii_items.specs.Strings.{as_format, text_format, bytes_content, text_content}
 use Rattle.cbor4ii_tree.specs.declared.value.Value.{Value}
@@ -27,7 +26,7 @@ use Rattle.cbor4ii.specs.declared.serde.de.any_leaf.AnyLeaf.TheVariants.{Integer
 use Rattle.cbor4ii.specs.declared.serde.de.any_leaf.AnyLeaf.TheVariants.{Text, Bool as Flag, Null}
 use Rattle.cbor4ii.specs.declared.serde.de.any_leaf.AnyLeaf.TheVariants.{F16, F32, F64}
 use Rattle.cbor4ii.specs.Any.{kind, Formed, of_integer, of_bytes, of_text, of_bool}
-use Rattle.cbor4ii.specs.Any.{of_null, of_f16, of_f32, of_f64, of_array, of_map, KindAs, LeafAs}
+use Rattle.cbor4ii.specs.Any.{of_null, of_array, of_map, KindAs, LeafAs}
 use Rattle.cbor4ii.specs.Any.{AnyInside, ReadsAny, SameView, ReadsSmallU128}
 use Rattle.cbor4ii.specs.AnyFormat.{any_format}
 use Rattle.cbor4ii.specs.AnyRejects.{RejectsBignum, KindRejects, LeafRejects, AnyRejects}
@@ -36,7 +35,7 @@ use Rattle.cbor4ii.specs.Laws.Any.{any_laws, inside_of_any}
 use Rattle.cbor4ii.specs.Laws.TypedOnce.{sequence_of_once, steps_apart, steps_error}
 use Rattle.cbor4ii.specs.Sequence.{four_small, five_small, sequence_of}
 use Rattle.cbor4ii.specs.Typed.{typed_format, lawful_as}
-use Rattle.cbor4ii.proofs.AnyAnswers.{inside_in}
+use Rattle.cbor4ii.proofs.AnyAnswers.{after_in}
 
 -- ---- items that hold no other
 
@@ -47,10 +46,7 @@ record Once {V : Type 0} (reads : Reads V) (rejects : RejectsAt) : Type 0 where
 
 formed_once : {W : Type 0} (form : W → Value) (s : Format W) → RejectsOnce s
     → Once (Formed s.reads form) s.rejects
-formed_once form s h = record {
-  apart = λ xs budget e x r v n c p. h.apart xs budget e x r p.0 n c p.1;
-  one_error = h.one_error;
-}
+formed_once form s h = search rules
 
 small_apart : NeverBoth ReadsSmallU128 RejectsBignum
 small_apart xs budget e x (inl s) v n c p fits = u128_apart xs budget e x s v n c p.0 fits
@@ -64,11 +60,7 @@ small_error xs budget e f x y (inl s) (inr t) =
     absurd (u128_apart xs None e x s t.number t.size 0 t.read tt)
 small_error xs budget e f x y (inr s) (inl t) =
     absurd (u128_apart xs None f y t s.number s.size 0 s.read tt)
-small_error xs budget e f x y (inr s) (inr t) =
-    let same = u128_one xs s.number t.number s.size t.size 0 0 s.read t.read in (
-      s.rejected ∙ sym t.rejected,
-      s.left ∙ (ap (λ k. drop k xs) same.0 ∙ sym t.left),
-    )
+small_error xs budget e f x y (inr s) (inr t) = search (rules, u128_one)
 
 leaf_once : (leaf : AnyLeaf) → Once (LeafAs leaf) (LeafRejects leaf)
 leaf_once Integer =
@@ -85,24 +77,14 @@ leaf_once Text =
     (text_once (codes "str") text_content)
 leaf_once Flag = formed_once of_bool bool_format bool_once
 leaf_once Null = formed_once of_null simple_format simple_once
-leaf_once F16 =
-    formed_once of_f16 (format_by (λ v. v.0) (float_format (codes "f16") 0xf9 2))
-    (once_by (λ v. v.0) (float_format (codes "f16") 0xf9 2) (float_once (codes "f16") 0xf9 2))
-leaf_once F32 =
-    formed_once of_f32 (format_by (λ v. v.0) (float_format (codes "f32") 0xfa 4))
-    (once_by (λ v. v.0) (float_format (codes "f32") 0xfa 4) (float_once (codes "f32") 0xfa 4))
-leaf_once F64 =
-    formed_once of_f64 (format_by (λ v. v.0) (float_format (codes "f64") 0xfb 8))
-    (once_by (λ v. v.0) (float_format (codes "f64") 0xfb 8) (float_once (codes "f64") 0xfb 8))
+leaf_once F16 = search (rules, formed_once, once_by, float_once)
+leaf_once F32 = search (rules, formed_once, once_by, float_once)
+leaf_once F64 = search (rules, formed_once, once_by, float_once)
 
 -- ---- an item of a kind
 
 other_error : OneError RejectsOther
-other_error xs budget e f x y s t =
-    let same : s.0 ≡ t.0 = (let one = s.1 in let two = t.1 in cc) in (
-      s.2 ∙ (ap (λ b. unsupported (codes "any") b) same ∙ sym t.2),
-      s.3 ∙ sym t.3,
-    )
+other_error xs budget e f x y s t = search rules
 
 -- any item, which is rejected by `inner`
 abbrev rejected_by : RejectsAt → Format Value
@@ -123,10 +105,7 @@ module _ (inner : RejectsAt) (once : RejectsOnce (rejected_by inner)) where
       (sequence_of_once in_vector (codes "map") (codes "map") 5 five_small pair
       (pair_lawful s s (lawful_as any_laws) (lawful_as any_laws))
       (pair_once s s (lawful_as any_laws) (lawful_as any_laws) once once))
-  kind_once Other = record {
-    apart = λ xs budget e x s v n c p fits. p;
-    one_error = other_error;
-  }
+  kind_once Other = search (rules, other_error)
 
   some_byte : {A : Type 0} (xs : List ℕ) (b : ℕ) → xs ≡ [] → take 1 xs ≡ b ∷ [] → A
   some_byte [] b e f = cc
@@ -151,10 +130,7 @@ module _ (inner : RejectsAt) (once : RejectsOnce (rejected_by inner)) where
 -- ---- any item, within at most so many items
 
 at_once : (k : ℕ) → RejectsOnce (rejected_by (AnyRejectsAt k))
-at_once zero = record {
-  apart = λ xs budget e x s v n c p fits. s;
-  one_error = λ xs budget e f x y s t. absurd s;
-}
+at_once zero = search rules
 at_once (suc k) =
     let inner = AnyRejectsAt k in
     let apart = steps_apart (codes "any") (AnyInside ReadsAny) (AnyRejects inner)
@@ -173,47 +149,14 @@ AlsoRejects f g =
     (xs : List ℕ) (budget : Option ℕ) (e : InputError) (x : List ℕ) → f xs budget e x
     → g xs budget e x
 
-module _ (f g : RejectsAt) (more : AlsoRejects f g) where
-  pairs_more : AlsoRejects (RejectsPair ReadsAny f f) (RejectsPair ReadsAny g g)
-  pairs_more xs budget e x (inl s) = inl (more xs budget e x s)
-  pairs_more xs budget e x (inr s) = inr (record {
-    whole = s.whole;
-    size = s.size;
-    cost = s.cost;
-    key = s.key;
-    fits = s.fits;
-    stop = more (drop s.size xs) budget e x s.stop;
-  })
-
-  kinds_more : (k : AnyKind) → AlsoRejects (KindRejects f k) (KindRejects g k)
-  kinds_more (Leaf leaf) xs budget e x s = s
-  kinds_more Array xs budget e x (inl s) = inl s
-  kinds_more Array xs budget e x (inr s) =
-      let r = inside_in (codes "array") 4 ReadsAny f (λ k. g)
-      (λ ys b z zs t. (0, more ys b z zs t)) xs _ e x s.1 in
-      inr (s.0, r.1)
-  kinds_more Map xs budget e x (inl s) = inl s
-  kinds_more Map xs budget e x (inr s) =
-      let r = inside_in (codes "map") 5 (ReadsPair ReadsAny ReadsAny) (RejectsPair ReadsAny f f)
-      (λ k. RejectsPair ReadsAny g g) (λ ys b z zs t. (0, pairs_more ys b z zs t)) xs _ e x s.1 in
-      inr (s.0, r.1)
-  kinds_more Other xs budget e x s = s
-
-  insides_more : AlsoRejects (AnyRejects f) (AnyRejects g)
-  insides_more xs budget e x (inl s) = inl s
-  insides_more xs budget e x (inr s) =
-      inr (s.0, s.1, kinds_more (kind s.0) xs budget e x s.2)
-
 deeper : (k j : ℕ) → k ≤ j → AlsoRejects (AnyRejectsAt k) (AnyRejectsAt j)
 deeper zero j le xs budget e x s = absurd s
 deeper (suc k) zero le xs budget e x s = absurd (omega (arith, le))
 deeper (suc k) (suc j) le xs budget e x (inl s) = inl s
 deeper (suc k) (suc j) le xs budget e x (inr s) =
-    inr (
-      s.0,
-      insides_more (AnyRejectsAt k) (AnyRejectsAt j) (deeper k j (omega (arith, le))) xs _
-          e x s.1,
-    )
+    let r = after_in (AnyRejectsAt k) (λ i. AnyRejectsAt j)
+    (λ ys b z zs t. (0, deeper k j (omega (arith, le)) ys b z zs t)) xs _ e x s.1 in
+    inr (s.0, r.1)
 
 pub any_once : RejectsOnce any_format
 any_once = record {

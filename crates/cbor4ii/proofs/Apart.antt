@@ -1,33 +1,21 @@
 -- What is rejected under one step, or where a value may be absent, is not read.
-use Rattle.std.proofs.Common.{ℕ, List, inl, inr, Bool, subst}
+use Rattle.std.proofs.Common.{Bool, rules}
 use Rattle.std.specs.Prelude.{IsTrue, codes}
 use Rattle.cbor4ii_items.specs.Containers.{ReadsOption, RejectsOption}
 use Rattle.cbor4ii_items.specs.Decoding.{Reads, RejectsAt}
-use Rattle.cbor4ii_items.specs.Budget.{CostFits}
 use Rattle.cbor4ii_items.specs.NeverBoth.{NeverBoth}
-use Rattle.cbor4ii_items.specs.Sequences.{after_step}
 use Rattle.cbor4ii_items.specs.Laws.ContainersApart.{option_apart}
-use Rattle.cbor4ii_items.specs.Laws.SequencesApart.{none_left, fits_after}
 use Rattle.cbor4ii.specs.Optional.{ReadsPresence, RejectsPresence}
 use Rattle.cbor4ii.specs.Elements.{ReadsNone}
 use Rattle.cbor4ii_items.specs.Nothing.{RejectsNothing}
 use Rattle.cbor4ii.specs.Stepped.{Stepped, RejectsStepped}
 use Rattle.cbor4ii.specs.Typed.{rejects_if_known}
-
-stepped_apart : {V : Type 0} (name : List ℕ) (reads : Reads V) (rejects : RejectsAt)
-    → NeverBoth reads rejects → NeverBoth (Stepped reads) (RejectsStepped name rejects)
-stepped_apart name reads rejects apart xs budget err rest (inl s) v n c p fits =
-    none_left budget p.0 s.0 (subst (λ k. CostFits k budget) p.2 fits)
-stepped_apart name reads rejects apart xs budget err rest (inr s) v n c p fits =
-    apart xs (after_step budget) err rest s.1 v n p.0 p.1
-    (fits_after budget p.0 (subst (λ k. CostFits k budget) p.2 fits))
+use Rattle.cbor4ii.specs.Laws.TypedOnce.{steps_apart}
 
 absent_apart : {V : Type 0} (reads : Reads V) (rejects : RejectsAt) → NeverBoth reads rejects
     → NeverBoth (ReadsOption (Stepped reads))
     (RejectsOption (RejectsStepped (codes "option") rejects))
-absent_apart reads rejects apart =
-    option_apart (Stepped reads) (RejectsStepped (codes "option") rejects)
-    (stepped_apart (codes "option") reads rejects apart)
+absent_apart reads rejects apart = search (rules, option_apart, steps_apart)
 
 said_apart : {V : Type 0} (known : Bool) (reads : Reads V) (rejects : RejectsAt) → IsTrue known
     → NeverBoth reads rejects → NeverBoth reads (rejects_if_known known rejects)

@@ -1,6 +1,6 @@
 -- How a value of several parts is rejected.
-use Rattle.std.proofs.Common.{◌≡◌, ◌≢◌, ℕ, List, [], ◌∷◌, drop, take, Option, Some, None, Err, Bool}
-use Rattle.std.proofs.Common.{true, false, refl, subst, IfSome}
+use Rattle.std.proofs.Common.{◌≡◌, ◌≢◌, ℕ, List, [], ◌∷◌, take, Option, Some, None, Err, Bool}
+use Rattle.std.proofs.Common.{true, false, refl, subst, IfSome, rules}
 use Rattle.std.specs.Prelude.{IsTrue, codes}
 use Rattle.cbor4ii_rw.specs.View.{View}
 use Rattle.cbor4ii_rw.specs.declared.error.DecodeError.{DecodeError}
@@ -8,7 +8,7 @@ use Rattle.cbor4ii_items.specs.Containers.{RejectsOption}
 use Rattle.cbor4ii_items.specs.Decoding.{RejectsAt, Rejects}
 use Rattle.cbor4ii_items.specs.Moves.{Moves}
 use Rattle.cbor4ii_items.specs.Next.{RejectsNext}
-use Rattle.cbor4ii_items.specs.InputError.{InputError, input_error_of, is_read}
+use Rattle.cbor4ii_items.specs.InputError.{InputError, input_error_of}
 use Rattle.cbor4ii_items.specs.Laws.Containers.{not_null}
 use Rattle.cbor4ii_items.specs.Laws.Calls.{rejects_as}
 use Rattle.cbor4ii_items.specs.Laws.Answering.{not_read, kept_of}
@@ -21,10 +21,7 @@ left_by : {V E : Type 0} (e : DecodeError E) (a b : View) (Q : Type 0) → Moves
     → (xs : List ℕ) → a.known ≡ Some xs → (o : Option InputError) → input_error_of e ≡ o → Q
     → IfSome o (λ z. (ys : List ℕ) × (b.known ≡ Some ys) × Q)
 left_by e a b Q m xs known None says q = tt
-left_by e a b Q m xs known (Some z) says q =
-    let k = kept_of (is_read e) a b (not_read e z says) m.by in
-    let t = k.rest xs known in
-    (drop t.0 xs, t.1.left, q)
+left_by e a b Q m xs known (Some z) says q = search (rules, kept_of, not_read)
 
 pub unsaid_left : {V E : Type 0} {e : DecodeError E} {a b : View} → Moves {V = V} a b (Err e)
     → Rejects unsaid_rejects a b e
@@ -40,9 +37,7 @@ pub said_left : {V E : Type 0} (exact : Bool) (rejects : RejectsAt) {e : DecodeE
 said_left true rejects m s = stopped_as rejects (rejects_if_known true rejects)
     (λ xs budget z ys h is. h)
     (s refl)
-said_left false rejects m s =
-    stopped_as unsaid_rejects (rejects_if_known false rejects) (λ xs budget z ys h is. not_exact is)
-    (unsaid_left m)
+said_left false rejects m s = search (rules, stopped_as, not_exact, unsaid_left)
 
 -- ---- a value that may be absent
 

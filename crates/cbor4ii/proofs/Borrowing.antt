@@ -1,7 +1,8 @@
 -- Strings that are borrowed from the input, read as those that may be.
+use Rattle.std.proofs.Common.{rules}
 use Rattle.std.proofs.Common.{◌≡◌, ℕ, ◌<◌, ◌⊎◌, inl, inr, List, [], ◌∷◌, length, take, drop, Bool}
 use Rattle.std.proofs.Common.{true, false, Result, Ok, Err, refl, sym, ap, subst, IfOk, IfErr}
-use Rattle.std.specs.Prelude.{OnOk, IsOkAnd, IsTrue, IsUtf8, codes}
+use Rattle.std.specs.Prelude.{OnOk, IsOkAnd, IsTrue, codes}
 use denote.Ref.{Bor}
 use Rattle.std.specs.declared.alloc.Global.{Global}
 use Rattle.std.specs.declared.borrow.CowStr.{CowStr}
@@ -18,7 +19,7 @@ use Rattle.cbor4ii_items.specs.InputError.{input_error_of, require_borrowed}
 use Rattle.cbor4ii_items.specs.Moves.{Moves}
 use Rattle.cbor4ii_items.specs.Cow.{BorrowsWhereDefinite, cow_text, cow_bytes, IsBorrowedBytes}
 use Rattle.cbor4ii_items.specs.Cow.{IsOwnedBytes, slice_stands, cow_bytes_stand}
-use Rattle.cbor4ii_items.specs.Strings.{ReadsDefiniteString, ReadsAs, ReadsTextAs, as_format}
+use Rattle.cbor4ii_items.specs.Strings.{ReadsAs, ReadsTextAs, as_format}
 use Rattle.cbor4ii_items.specs.Strings.{text_format}
 use Rattle.cbor4ii_items.specs.Decoding.{Reads, RejectsAt, IsExact, Sound, Complete, Rejects}
 use Rattle.cbor4ii_items.specs.Decoding.{Decodes}
@@ -149,11 +150,7 @@ text_apart (text.Owned t) b o = b
 pub text_definite : (xs : List ℕ) (v : CowStr Global) (w : Bor (List ℕ)) (n c : ℕ)
     → cow_text v ≡ lent_str w → ReadsTextAs cow_text xs v n c
     → ReadsBorrowed 3 true lent_str xs w n c ⊎ (take 1 xs ≡ indefinite_head 3 ∷ [])
-text_definite xs v w n c same r = elim r.0 [
-  | inl s ↦
-      inl (subst (λ z. ReadsDefiniteString 3 xs z n) same s.0, s.1, (λ is. subst IsUtf8 same r.1))
-  | inr s ↦ inr s.begins
-]
+text_definite xs v w n c same r = search (rules, inl, inr)
 
 abbrev pub text_lent : Bor (List ℕ) → CowStr Global
 text_lent w = text.Borrowed w
@@ -175,10 +172,7 @@ bytes_apart v b o = slice_apart v.0 b o
 pub bytes_definite : (xs : List ℕ) (v : Bytes (CowSlice ℕ Global)) (w : Bytes (Bor (List ℕ)))
     (n c : ℕ) → cow_bytes v ≡ lent_bytes w → ReadsAs 2 cow_bytes xs v n c
     → ReadsBorrowed 2 false lent_bytes xs w n c ⊎ (take 1 xs ≡ indefinite_head 2 ∷ [])
-bytes_definite xs v w n c same r = elim r [
-  | inl s ↦ inl (subst (λ z. ReadsDefiniteString 2 xs z n) same s.0, s.1, not_exact)
-  | inr s ↦ inr s.begins
-]
+bytes_definite xs v w n c same r = search (rules, inl, not_exact, inr)
 
 abbrev pub bytes_lent : Bytes (Bor (List ℕ)) → Bytes (CowSlice ℕ Global)
 bytes_lent w = record { 0 = slice.Borrowed w.0 }

@@ -1,8 +1,8 @@
 -- A variant: its form, its name, and what it holds.
 use Rattle.std.proofs.Common.{◌≡◌, ◌≢◌, ◌+◌, inl, inr, ℕ, zero, suc, List, [], ◌∷◌, drop}
 use Rattle.std.proofs.Common.{Bool, true, false, Result, Ok, Err, refl}
-use Rattle.std.proofs.Common.{subst, Option, arith}
-use Rattle.std.specs.Prelude.{◌&&◌, not}
+use Rattle.std.proofs.Common.{subst, Option, arith, rules}
+use Rattle.std.specs.Prelude.{not}
 use denote.Ref.{Bor}
 use Rattle.cbor4ii_rw.specs.View.{View}
 use Rattle.cbor4ii_rw.specs.declared.error.DecodeError.{DecodeError}
@@ -12,17 +12,15 @@ use Rattle.cbor4ii_items.specs.Laws.Calls.{ok, ok_after, err_after, of_exact, ex
 use Rattle.cbor4ii_items.specs.Laws.Calls.{exact_less}
 use Rattle.cbor4ii_items.specs.Laws.Containers.{both}
 use Rattle.cbor4ii_items.specs.Laws.Prefixes.{drop_more}
-use Rattle.cbor4ii.specs.declared.serde.de.cases.Choice.{Choice}
 use Rattle.cbor4ii.specs.declared.serde.de.cases.Choice.TheVariants.{First, Other}
 use Rattle.cbor4ii.specs.Cases.{Cases, Holding, reads_by, holding_format, case_format, case}
 use Rattle.cbor4ii.specs.Cases.{held_case, unnamed_case, cases_by, first_all}
 use Rattle.cbor4ii.specs.Cases.{other_all, reads_named, named_format, cases_inside, form_one}
 use Rattle.cbor4ii.specs.Names.{StandsAt, IsFirst, IsAfter}
 use Rattle.cbor4ii.specs.Typed.{Promise, Deserializes}
-use Rattle.cbor4ii.specs.TypedParts.{part_of}
 use Rattle.cbor4ii.specs.Variants.{form_format}
 use Rattle.cbor4ii.proofs.Promised.{tell}
-use Rattle.cbor4ii.proofs.Forms.{sound_by, err_here}
+use Rattle.cbor4ii.proofs.Forms.{sound_by, err_here, ReadAs, in_form, as_read}
 
 -- ---- what one variant holds
 
@@ -33,12 +31,7 @@ module _ {T E : Type 0} (p : Promise T) {a b : View} where
   held_then (true, first) is (Ok v) d =
       of_exact (ok (holding_format (held_case p) (true, first)) d.moves.by (λ some. cc)
       (sound_by d.sound (λ xs n c r. r)))
-  held_then (true, first) is (Err e) d =
-      err_here (part_of p) (holding_format (held_case p) (true, first)) (λ xs. record {
-        none = λ is none v n c r fits. none v n c r fits;
-        rejects = λ z ys h. h;
-        begins = λ z ys h. h;
-      }) (λ owned. owned) (λ takes. refl) (tell p (Err e) d)
+  held_then (true, first) is (Err e) d = search (rules, err_here, tell)
 
 -- ---- one variant, and those after it
 
@@ -75,46 +68,13 @@ module _ {A B : Type 0} (own : List ℕ) (h : Holding A) (others : Cases B) {nam
   other_read (true, first) apart xs v n c r = inr (apart, r)
   other_read (false, first) apart xs v n c r = (inr (apart, r.0), r.1, r.2)
 
-  module _ {E : Type 0} (form : Bool × ℕ) {a b : View} where
-    pub first_ok : {x y : Bool} {v : A} → name ≡ own
-        → DecodesIf {E = E} x (holding_format h form) a b (Ok v)
-        → DecodesIf {E = E} y (case_format (case own h others) form name) a b (Ok (First v))
-    first_ok {v = v} same d =
-        of_exact (ok (case_format (case own h others) form name) d.moves.by (λ some. cc)
-        (sound_by d.sound (λ xs n c r. first_read form same xs v n c r)))
+  first_as : (form : Bool × ℕ) → name ≡ own
+      → ReadAs (holding_format h form) (case_format (case own h others) form name) First
+  first_as form same = search (rules, first_read, none_first, inl)
 
-    pub first_err : {e : DecodeError E} → name ≡ own
-        → DecodesIf h.exact (holding_format h form) a b (Err e)
-        → DecodesIf (h.exact && others.exact) (case_format (case own h others) form name) a b
-        (Err e)
-    first_err same d =
-        err_here (holding_format h form) (case_format (case own h others) form name)
-        (λ xs. record {
-          none = λ is. none_first form same xs a.budget;
-          rejects = λ z ys s. inl (same, s);
-          begins = λ z ys s. inl (same, s);
-        }) (λ owned. (both h.owned others.owned owned).0) (λ takes. refl)
-        (exact_less (λ is. (both h.exact others.exact is).0) d)
-
-    pub other_ok : {x y : Bool} {v : B} → name ≢ own
-        → DecodesIf {E = E} x (case_format others form name) a b (Ok v)
-        → DecodesIf {E = E} y (case_format (case own h others) form name) a b (Ok (Other v))
-    other_ok {v = v} apart d =
-        of_exact (ok (case_format (case own h others) form name) d.moves.by (λ some. cc)
-        (sound_by d.sound (λ xs n c r. other_read form apart xs v n c r)))
-
-    pub other_err : {e : DecodeError E} → name ≢ own
-        → DecodesIf others.exact (case_format others form name) a b (Err e)
-        → DecodesIf (h.exact && others.exact) (case_format (case own h others) form name) a b
-        (Err e)
-    other_err apart d =
-        err_here (case_format others form name) (case_format (case own h others) form name)
-        (λ xs. record {
-          none = λ is. none_other form apart xs a.budget;
-          rejects = λ z ys s. inr (apart, s);
-          begins = λ z ys s. inr (apart, s);
-        }) (λ owned. (both h.owned others.owned owned).1) (λ takes. refl)
-        (exact_less (λ is. (both h.exact others.exact is).1) d)
+  other_as : (form : Bool × ℕ) → name ≢ own
+      → ReadAs (case_format others form name) (case_format (case own h others) form name) Other
+  other_as form apart = search (rules, other_read, none_other, inr)
 
 -- no variant of these names
 module _ {A B : Type 0} (h : Holding A) (others : Cases B) (name : List ℕ) where
@@ -132,27 +92,9 @@ module _ {A B : Type 0} (h : Holding A) (others : Cases B) (name : List ℕ) whe
   unnamed_read (true, first) xs v n c r = r
   unnamed_read (false, first) xs v n c r = r
 
-  module _ {E : Type 0} (form : Bool × ℕ) {a b : View} where
-    pub unnamed_ok : {x y : Bool} {v : B}
-        → DecodesIf {E = E} x (case_format others form name) a b (Ok v)
-        → DecodesIf {E = E} y (case_format (unnamed_case h others) form name) a b
-        (Ok (Other v))
-    unnamed_ok {v = v} d =
-        of_exact (ok (case_format (unnamed_case h others) form name) d.moves.by (λ some. cc)
-        (sound_by d.sound (λ xs n c r. unnamed_read form xs v n c r)))
-
-    pub unnamed_err : {e : DecodeError E}
-        → DecodesIf others.exact (case_format others form name) a b (Err e)
-        → DecodesIf (h.exact && others.exact) (case_format (unnamed_case h others) form name)
-        a b (Err e)
-    unnamed_err d =
-        err_here (case_format others form name)
-        (case_format (unnamed_case h others) form name) (λ xs. record {
-          none = λ is. none_unnamed form xs a.budget;
-          rejects = λ z ys s. s;
-          begins = λ z ys s. s;
-        }) (λ owned. (both h.owned others.owned owned).1) (λ takes. refl)
-        (exact_less (λ is. (both h.exact others.exact is).1) d)
+  unnamed_as : (form : Bool × ℕ)
+      → ReadAs (case_format others form name) (case_format (unnamed_case h others) form name) Other
+  unnamed_as form = search (rules, unnamed_read, none_unnamed)
 
 -- ---- the form, and what comes after it
 
@@ -224,30 +166,17 @@ module _ {V E : Type 0} (cases : Cases V) {a m : View} where
 
 -- ---- by the names
 
--- what is read of the first variant, and of one after it, as one of them all
-abbrev pub as_first : {A B E : Type 0} → Result A (DecodeError E)
-    → Result (Choice A B) (DecodeError E)
-as_first (Ok v) = Ok (First v)
-as_first (Err e) = Err e
-
-abbrev pub as_other : {A B E : Type 0} → Result B (DecodeError E)
-    → Result (Choice A B) (DecodeError E)
-as_other (Ok v) = Ok (Other v)
-as_other (Err e) = Err e
-
 module _ {A B E : Type 0} (h : Holding A) (others : List (Bor (List ℕ)) → Cases B)
     (form : Bool × ℕ) (name : List ℕ) {a b : View} where
   pub first_then : (names : List (Bor (List ℕ))) (at : ℕ) → IsFirst names at
       → StandsAt name names at → (r : Result A (DecodeError E))
       → DecodesIf h.exact (holding_format h form) a b r
       → DecodesIf (cases_by h others names).exact
-      (case_format (cases_by h others names) form name) a b (as_first r)
-  first_then [] at first which r d = absurd first
-  first_then (own ∷ names) (suc at) first which r d = absurd first
-  first_then (own ∷ names) zero first which (Ok v) d =
-      first_ok own.now h (others names) form which d
-  first_then (own ∷ names) zero first which (Err e) d =
-      first_err own.now h (others names) form which d
+      (case_format (cases_by h others names) form name) a b (in_form First r)
+  first_then (own ∷ names) zero first which r d =
+      as_read (first_as own.now h (others names) form which) r
+      (exact_less (λ is. (both h.exact (others names).exact is).0) d)
+  first_then _ _ first which r d = absurd first
 
   moved : (names trailing : List (Bor (List ℕ))) (at next : ℕ) → trailing ≡ names → next ≡ at
       → (r : Result B (DecodeError E))
@@ -255,11 +184,7 @@ module _ {A B E : Type 0} (h : Holding A) (others : List (Bor (List ℕ)) → Ca
       → DecodesIf (others trailing).exact (case_format (others trailing) form name) a b r)
       → StandsAt name names at
       → DecodesIf (others names).exact (case_format (others names) form name) a b r
-  moved names trailing at next same place r d =
-      subst (λ zs. StandsAt name zs at → DecodesIf (others zs).exact
-      (case_format (others zs) form name) a b r) same
-      (subst (λ k. StandsAt name trailing k → DecodesIf (others trailing).exact
-      (case_format (others trailing) form name) a b r) place d)
+  moved names trailing at next same place r d = search rules
 
   pub other_then : (names : List (Bor (List ℕ))) (at : ℕ) (trailing : List (Bor (List ℕ)))
       (next : ℕ) → IsAfter names at trailing next → StandsAt name names at
@@ -267,15 +192,13 @@ module _ {A B E : Type 0} (h : Holding A) (others : List (Bor (List ℕ)) → Ca
       → (StandsAt name trailing next
       → DecodesIf (others trailing).exact (case_format (others trailing) form name) a b r)
       → DecodesIf (cases_by h others names).exact
-      (case_format (cases_by h others names) form name) a b (as_other r)
-  other_then [] at trailing next after which (Ok v) d =
-      unnamed_ok h (others []) name form (moved [] trailing at next after.0 after.1 (Ok v) d tt)
-  other_then [] at trailing next after which (Err e) d =
-      unnamed_err h (others []) name form (moved [] trailing at next after.0 after.1 (Err e) d tt)
+      (case_format (cases_by h others names) form name) a b (in_form Other r)
+  other_then [] at trailing next after which r d =
+      as_read (unnamed_as h (others []) name form) r
+      (exact_less (λ is. (both h.exact (others []).exact is).1)
+      (moved [] trailing at next after.0 after.1 r d tt))
   other_then (own ∷ names) zero trailing next after which r d = absurd after
-  other_then (own ∷ names) (suc at) trailing next after which (Ok v) d =
-      other_ok own.now h (others names) form which.0
-      (moved names trailing at next after.0 after.1 (Ok v) d which.1)
-  other_then (own ∷ names) (suc at) trailing next after which (Err e) d =
-      other_err own.now h (others names) form which.0
-      (moved names trailing at next after.0 after.1 (Err e) d which.1)
+  other_then (own ∷ names) (suc at) trailing next after which r d =
+      as_read (other_as own.now h (others names) form which.0) r
+      (exact_less (λ is. (both h.exact (others names).exact is).1)
+      (moved names trailing at next after.0 after.1 r d which.1))

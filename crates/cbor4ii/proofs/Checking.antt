@@ -1,6 +1,6 @@
 -- What a call answers that makes a value of another one by a test.
 use Rattle.std.proofs.Common.{◌≡◌, inl, inr, ℕ, List, drop, Option, Some, Ok, Err, Bool}
-use Rattle.std.proofs.Common.{IsTrue, true, false, refl}
+use Rattle.std.proofs.Common.{IsTrue, true, false, refl, rules}
 use Rattle.std.specs.Prelude.{◌||◌}
 use denote.Ref.{Bor}
 use Rattle.cbor4ii_rw.specs.View.{View}
@@ -28,9 +28,7 @@ module _ {V W E : Type 0} (p : Promise V) (words : V → Option (List ℕ)) (mak
   -- the test passed
   pub checked_ok : {v : V} {w : W} → IsMade words makes v w → Deserializes {E = E} p a b (Ok v)
       → Deserializes {E = E} (checked_from words makes takes_memory p) a b (Ok w)
-  checked_ok {v = v} made d =
-      ok (checked_from words makes takes_memory p) d.moves.by d.progress
-      (sound_by d.sound (λ xs n c r. record { part = v; read = r; made = made }))
+  checked_ok {v = v} made d = search (rules, ok, sound_by)
 
   -- there was no value
   pub checked_err : {e : DecodeError E} → Deserializes p a b (Err e)
@@ -53,9 +51,7 @@ module _ {V W E : Type 0} (p : Promise V) (words : V → Option (List ℕ)) (mak
   -- there was no memory for what is made of it
   pub checked_memory : {v : V} → IsTrue takes_memory → Deserializes {E = E} p a b (Ok v)
       → Deserializes {E = E} (checked_from words makes takes_memory p) a b (Err OutOfMemory)
-  checked_memory takes d =
-      out_of_memory (checked_from words makes takes_memory p)
-      (or_right p.format.takes_memory takes_memory takes) d.moves.by
+  checked_memory takes d = search (rules, out_of_memory, or_right)
 
   -- a value is whole, and its words reject it
   whole_unmade : (rejects : RejectsAt) {v : V} {text : Bor (List ℕ)} → words v ≡ Some text.now

@@ -1,6 +1,6 @@
 -- Which form a variant has, and what is read of its content.
 use Rattle.std.proofs.Common.{◌≡◌, ◌≢◌, ℕ, ◌/◌, List, [], ◌∷◌, take, Option, Bool, true, false}
-use Rattle.std.proofs.Common.{Result, Ok, Err, refl, ap, ◌∙◌, IfOk, IfErr, IsTrue}
+use Rattle.std.proofs.Common.{Result, Ok, Err, refl, ap, ◌∙◌, IfOk, IfErr, IsTrue, rules}
 use Rattle.std.specs.Prelude.{codes}
 use denote.Ref.{Bor}
 use Rattle.cbor4ii_rw.specs.View.{View}
@@ -40,10 +40,7 @@ one_first xs b first e f = cc
 
 pub other_complete : {E : Type 0} {name : Bor (List ℕ)} {a m : View} {b : ℕ} → Saw a m b → b ≢ 0xa1
     → b / 32 ≢ 3 → Complete {E = E} ReadsForm a (Mismatch name b)
-other_complete {b = b} s p q = record {
-  at = λ xs known form n c r fits.
-      other_first b form.0 form.1 n (one_first xs b form.1 (s.first xs known).1 r.0) p q r.1;
-}
+other_complete {b = b} s p q = search (rules, other_first, one_first)
 
 rejects_first : (xs : List ℕ) (b : ℕ) (budget : Option ℕ) → take 1 xs ≡ b ∷ [] → b ≢ 0xa1 →
     b / 32 ≢ 3
@@ -81,11 +78,7 @@ form_ended s = stopped_as (RejectsNext (codes "enum")) RejectsForm end_at s
 -- an error, after which a step is given back
 pub given_back : {V W E : Type 0} {a b d : View} {e : DecodeError E} → Moves {V = V} a b (Err e)
     → d.budget ≡ step_back b.budget → KeepsAllButBudget b d → Finishes {V = W} 1 a d (Err e)
-given_back {b = b} moves budget others = record {
-  within = b;
-  moves = moves_err moves;
-  closes = record { budget = budget; others = others };
-}
+given_back {b = b} moves budget others = search (rules, moves_err)
 
 pub content_complete : {V E : Type 0} (reads : Reads V) {content : Bool} {a : View}
     {e : DecodeError E} → content ≡ true → Complete reads a e

@@ -1,6 +1,6 @@
 -- An accessor's next key and its value.
-use Rattle.std.proofs.Common.{inl, inr, ℕ, zero, suc, List, drop, Option, Some, None, Bool, IsTrue}
-use Rattle.std.proofs.Common.{Ok, Err, subst}
+use Rattle.std.proofs.Common.{inl, inr, ℕ, List, drop, Option, Some, None, Bool, IsTrue}
+use Rattle.std.proofs.Common.{Ok, Err, subst, rules}
 use Rattle.std.specs.Prelude.{◌&&◌}
 use Rattle.cbor4ii_rw.specs.View.{View}
 use Rattle.cbor4ii_rw.specs.declared.error.DecodeError.{DecodeError}
@@ -13,39 +13,25 @@ use Rattle.cbor4ii_items.specs.Laws.Containers.{both}
 use Rattle.cbor4ii_items.specs.Laws.Pairs.{pair_sound, key_less, value_less, or_left, or_right}
 use Rattle.cbor4ii_items.specs.Laws.Steps.{kept_then}
 use Rattle.cbor4ii.specs.declared.serde.de.accessor.Left.{Left}
-use Rattle.cbor4ii.specs.declared.serde.de.accessor.Left.TheVariants.{Definite, Indefinite, Ended}
 use Rattle.cbor4ii.specs.Accessing.{Next, next_part_format}
-use Rattle.cbor4ii.proofs.Going.{part_of, part_start}
+use Rattle.cbor4ii.proofs.Going.{part_of, part_start, part_read, end_read, end_start, not_both}
 use Rattle.cbor4ii.proofs.Forms.{sound_by, err_here}
 
 -- what else stands there is read in its place
 in_place : {V W : Type 0} (reads : Reads V) (other : Reads W) (left : Left) (xs : List ℕ) (v : V)
     (w : W) (n c m d : ℕ) → Next reads left xs (Some v) n c → other xs w m d
     → Next other left xs (Some w) m d
-in_place reads other (Definite zero) xs v w n c m d h r = absurd h
-in_place reads other (Definite (suc k)) xs v w n c m d h r = r
-in_place reads other Indefinite xs v w n c m d h r = (h.0, r)
-in_place reads other Ended xs v w n c m d h r = absurd h
+in_place reads other left xs v w n c m d h r =
+    part_read other left xs w 0 0 m d (part_start reads left xs v n c h) r
 
 -- the end is the same for all
 same_end : {V W : Type 0} (reads : Reads V) (other : Reads W) (left : Left) (xs : List ℕ) (n c : ℕ)
     → Next reads left xs None n c → Next other left xs None n c
-same_end reads other (Definite zero) xs n c h = h
-same_end reads other (Definite (suc k)) xs n c h = absurd h
-same_end reads other Indefinite xs n c h = h
-same_end reads other Ended xs n c h = h
+same_end reads other left xs n c h = end_read other left xs n c (end_start reads left xs n c h)
 
 key_at : {K : Type 0} (key : Reads K) (left : Left) {a m : View} {k : K}
     → Sound (Next key left) a m (Some k) → Sound key a m k
 key_at key left {k = k} s = sound_by s (λ xs n c r. part_of key left xs k n c r)
-
--- where a part comes it is not the end
-no_end : {V : Type 0} (reads : Reads V) (left : Left) (xs : List ℕ) (v : V) (n c m d : ℕ)
-    → Next reads left xs (Some v) n c → Next reads left xs None m d → ⊥
-no_end reads (Definite zero) xs v n c m d h e = h
-no_end reads (Definite (suc k)) xs v n c m d h e = e
-no_end reads Indefinite xs v n c m d h e = h.0.1 e.0
-no_end reads Ended xs v n c m d h e = h
 
 module _ {K V : Type 0} (k : Format K) (v : Format V) (left : Left) where
   no_key : (xs : List ℕ) (budget : Option ℕ) → NoneRead (Next k.reads left) xs budget
@@ -61,8 +47,7 @@ module _ {K V : Type 0} (k : Format K) (v : Format V) (left : Left) where
       → Next k.reads left xs (Some key) i d → NoneRead v.reads (drop i xs) budget
       → NoneRead (Next (ReadsPair k.reads v.reads) left) xs budget
   no_value lawful xs key i d budget read none None n c r fits =
-      no_end k.reads left xs key i d n c read
-      (same_end (ReadsPair k.reads v.reads) k.reads left xs n c r)
+      search (rules, not_both, part_start, same_end)
   no_value lawful xs key i d budget read none (Some p) n c r fits =
       let h = part_of (ReadsPair k.reads v.reads) left xs p n c r in
       let first = (lawful.one xs p.0 key h.key_size i h.key_cost d h.key

@@ -1,7 +1,7 @@
 -- What becomes of a struct's values, pair by pair.
 use Rattle.std.proofs.Common.{true, ◌-◌, ◌≤◌, length, take, drop, get_or, ◌≡◌, ◌≢◌, inl, inr, ℕ}
 use Rattle.std.proofs.Common.{◌+◌, ◌<◌, List, [], ◌∷◌, ◌++◌, Result, Ok, Err, Bool, refl, sym, ap}
-use Rattle.std.proofs.Common.{◌∙◌, subst}
+use Rattle.std.proofs.Common.{◌∙◌, subst, rules}
 use denote.Ref.{Bor}
 use Rattle.std.specs.Prelude.{◌&&◌, OnOk, IfErr, IsTrue}
 use Rattle.cbor4ii_items.specs.InputError.{is_out_of_memory}
@@ -146,18 +146,14 @@ module _ {K T P V U E : Type 0} (key : K → Bor (List ℕ)) (place : Place T P)
       (others (labels_by key (take (length keys - 1) (drop 1 keys))))) label) before after a b r
       → Alters one_change (fields_by place p others (labels_by key keys)).exact
       (after_name (fields_by place p others (labels_by key keys)) label) before after a b r
-  at_first d some h =
-      subst (λ f. Alters one_change f.exact (after_name f label) before after a b r)
-      (ap (fields_by place p others) (sym (keys_split key keys d some))) h
+  at_first d some h = search (rules, keys_split)
 
   pub at_none : length keys < 1
       → Alters one_change (p.exact && (others []).exact)
       (after_name (unnamed_field place p (others [])) label) before after a b r
       → Alters one_change (fields_by place p others (labels_by key keys)).exact
       (after_name (fields_by place p others (labels_by key keys)) label) before after a b r
-  at_none less h =
-      subst (λ f. Alters one_change f.exact (after_name f label) before after a b r)
-      (ap (fields_by place p others) (sym (keys_none key keys less))) h
+  at_none less h = search (rules, keys_none)
 
 -- ---- a pair
 
@@ -214,11 +210,7 @@ module _ {V : Type 0} (key : FieldKey) (f : Fields V) where
   pub definite_done : {E : Type 0} {i count : ℕ} {a m : View} {first last : V}
       → Definite i a m first last → i ≡ count
       → Altered E all_changes (count_of in_list (field_pair key f) count) first last a m
-  definite_done h all = record {
-    what = h.changes;
-    read = count_done in_list (field_pair key f) h.begun all;
-    is = h.is;
-  }
+  definite_done h all = search (rules, count_done)
 
   -- pairs, with a break in the place of none of them
   pub record Unended (a m : View) (first last : V) : Type 0 where
@@ -239,11 +231,7 @@ module _ {V : Type 0} (key : FieldKey) (f : Fields V) where
   pub unended_done : {E : Type 0} (name : List ℕ) {ended : Bool} {a l b : View} {first last : V}
       → ended ≡ true → Unended a l first last → Runs {E = E} break_at l b (Ok ended)
       → Altered E all_changes (indefinite_of in_list name (field_pair key f)) first last a b
-  unended_done name is h q = record {
-    what = h.changes;
-    read = indefinite_done in_list name (field_pair key f) is h.opened q;
-    is = h.is;
-  }
+  unended_done name is h q = search (rules, indefinite_done)
 
 -- ---- the head, and the step
 
@@ -286,9 +274,7 @@ from_first {E = E} key f {after = after} {a = a} {b = b} is =
 module _ {V W E : Type 0} (values : W → V) (key : FieldKey) (f : Fields V) {a b : View} where
   pub filled_ok : {w : W} → Altered E all_changes (field_pairs key f) f.first (values w) a b
       → Decodes {E = E} (struct_of values key f).format a b (Ok w)
-  filled_ok h =
-      decoded_ok (struct_of values key f).format h.read.moves.by (λ some. h.read.progress refl)
-      (sound_by h.read.sound (λ xs n c r. (h.what, r, h.is)))
+  filled_ok h = search (rules, decoded_ok, sound_by)
 
   pub filled_err : {e : DecodeError E} → DecodesIf f.exact (field_pairs key f) a b (Err e)
       → DecodesIf f.exact (struct_of values key f).format a b (Err e)

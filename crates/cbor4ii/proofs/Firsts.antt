@@ -1,11 +1,11 @@
 -- The value at the beginning of an input.
 use Rattle.std.proofs.Common.{◌≡◌, ℕ, ◌+◌, ◌≤◌, inl, List, length, drop, Option, Some}
-use Rattle.std.proofs.Common.{None, Result, Ok, Err, true, refl, sym, subst, arith}
+use Rattle.std.proofs.Common.{None, Result, Ok, Err, true, refl, sym, subst, arith, rules}
 use Rattle.std.proofs.lemmas.List.{length-drop}
 use Rattle.std.specs.Prelude.{IfOk, IfErr, IfSome, IsTrue}
 use Rattle.cbor4ii_rw.specs.View.{View, IfKnown}
 use Rattle.cbor4ii_items.specs.InputError.{InputError, input_error_of}
-use Rattle.cbor4ii_items.specs.Decoding.{RejectsAt, NoneRead, Sound, IsExact, Complete}
+use Rattle.cbor4ii_items.specs.Decoding.{RejectsAt, NoneRead, Sound, Complete}
 use Rattle.cbor4ii_items.specs.Budget.{CostFits}
 use Rattle.cbor4ii_items.specs.Decoding.{Rejects}
 use Rattle.cbor4ii.specs.declared.serde.de.error.DecodeError.{DecodeError}
@@ -74,28 +74,16 @@ module _ {V E : Type 0} (p : Promise V) (r : Result V (DecodeError E)) where
 
   as_known : (sure other : Type 0) (known left : Option (List ℕ)) → (other → sure) → known ≡ left
       → First p sure known r → First p other left r
-  as_known sure other known left means e f =
-      subst (λ w. First p other w r) e
-      (record {
-        accepts = f.accepts;
-        memory = f.memory;
-        is_complete = λ is wanted. f.is_complete is (means wanted);
-        rejects = λ is wanted. f.rejects is (means wanted);
-        begins = f.begins;
-      })
+  as_known sure other known left means e f = search rules
 
   -- that of a slice, and of a stream
   pub first_lent : {view : View} (bytes : List ℕ) → FirstOf p view r → view.known ≡ Some bytes
       → view.zero_copy ≡ true → First p (IsSure p.format.owned bytes) (Some bytes) r
-  first_lent {view = view} bytes f known lends =
-      as_known (IsExact p.format.owned view) (IsSure p.format.owned bytes) view.known (Some bytes)
-      (sure_is_exact p.format.owned view bytes known lends) known f.first
+  first_lent {view = view} bytes f known lends = search (rules, as_known, sure_is_exact)
 
   pub first_streamed : {view : View} (left : Option (List ℕ)) → FirstOf p view r → view.known ≡ left
       → First p (IsTrue p.format.owned) left r
-  first_streamed {view = view} left f known =
-      as_known (IsExact p.format.owned view) (IsTrue p.format.owned) view.known left
-      (λ is. inl is) known f.first
+  first_streamed {view = view} left f known = search (rules, as_known, inl)
 
 module _ {V E : Type 0} (p : Promise V) (bytes : List ℕ) (a b : View)
     (known : a.known ≡ Some bytes) (budget : a.budget ≡ Some limit) where
@@ -152,8 +140,4 @@ module _ (bytes : List ℕ) (at : ℕ) (within : at ≤ length bytes) where
   -- an error of any type leaves so many bytes
   pub stops_within : {E : Type 0} (e : DecodeError E)
       → StopsAt typed_error_of unsaid_rejects bytes (record { at = at; error = Decode e })
-  stops_within e = record {
-    within = within;
-    trailing = tt;
-    leaves = unsaid_at (typed_error_of e);
-  }
+  stops_within e = search (rules, unsaid_at)

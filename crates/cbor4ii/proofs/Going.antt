@@ -1,4 +1,5 @@
 -- What an accessor's next part is.
+use Rattle.std.proofs.Common.{rules}
 use Rattle.std.proofs.Common.{◌≡◌, inl, inr, ℕ, zero, suc, List, drop, Option, Some, None, refl}
 use Rattle.std.proofs.Common.{◌+◌, ◌-◌, ◌≤◌, ◌∙◌, sym, ap, subst, true, false, arith, Bool, Ok, Err}
 use Rattle.std.specs.Prelude.{not}
@@ -54,9 +55,8 @@ may_go_on Ended new h = h
 
 -- where a part was read, one could come
 pub may_have_gone_on : (old : Left) (bound rest : ℕ) → rest + 1 ≤ fuel old bound → MayGoOn old
-may_have_gone_on (Definite k) bound rest h = omega (arith, h)
 may_have_gone_on Indefinite bound rest h = tt
-may_have_gone_on Ended bound rest h = omega (arith, h)
+may_have_gone_on _ bound rest h = omega (arith, h)
 
 -- ---- the part, or the end
 
@@ -64,51 +64,46 @@ module _ {V : Type 0} (reads : Reads V) where
   -- a part that comes is read as one, whatever is left
   pub part_of : (left : Left) (xs : List ℕ) (v : V) (n c : ℕ) → Next reads left xs (Some v) n c
       → reads xs v n c
-  part_of (Definite zero) xs v n c h = absurd h
   part_of (Definite (suc k)) xs v n c h = h
   part_of Indefinite xs v n c h = h.1
-  part_of Ended xs v n c h = absurd h
+  part_of _ xs v n c h = absurd h
 
-  end_read : (left : Left) (xs : List ℕ) (n c : ℕ) → ReadsStart left xs false n c
+  pub end_read : (left : Left) (xs : List ℕ) (n c : ℕ) → ReadsStart left xs false n c
       → Next reads left xs None n c
   end_read (Definite zero) xs n c h = h
   end_read (Definite (suc k)) xs n c h = h
   end_read Indefinite xs n c h = h
   end_read Ended xs n c h = h
 
-  end_start : (left : Left) (xs : List ℕ) (n c : ℕ) → Next reads left xs None n c
+  pub end_start : (left : Left) (xs : List ℕ) (n c : ℕ) → Next reads left xs None n c
       → ReadsStart left xs false n c
   end_start (Definite zero) xs n c h = h
   end_start (Definite (suc k)) xs n c h = h
   end_start Indefinite xs n c h = h
   end_start Ended xs n c h = h
 
-  part_read : (left : Left) (xs : List ℕ) (v : V) (n c m d : ℕ) → ReadsStart left xs true n c
+  pub part_read : (left : Left) (xs : List ℕ) (v : V) (n c m d : ℕ) → ReadsStart left xs true n c
       → reads xs v m d → Next reads left xs (Some v) m d
-  part_read (Definite zero) xs v n c m d h r = h
   part_read (Definite (suc k)) xs v n c m d h r = r
   part_read Indefinite xs v n c m d h r = ((h.0, h.1, refl, refl), r)
-  part_read Ended xs v n c m d h r = h
+  part_read _ xs v n c m d h r = h
 
   pub part_start : (left : Left) (xs : List ℕ) (v : V) (n c : ℕ) → Next reads left xs (Some v) n c
       → ReadsStart left xs true 0 0
-  part_start (Definite zero) xs v n c h = h
   part_start (Definite (suc k)) xs v n c h = (refl, refl)
   part_start Indefinite xs v n c h = h.0
-  part_start Ended xs v n c h = h
+  part_start _ xs v n c h = h
 
-  not_both : (left : Left) (xs : List ℕ) (n c m d : ℕ) → ReadsStart left xs true n c
+  pub not_both : (left : Left) (xs : List ℕ) (n c m d : ℕ) → ReadsStart left xs true n c
       → Next reads left xs None m d → ⊥
-  not_both (Definite zero) xs n c m d h e = h
   not_both (Definite (suc k)) xs n c m d h e = e
   not_both Indefinite xs n c m d h e = h.1 e.0
-  not_both Ended xs n c m d h e = h
+  not_both _ xs n c m d h e = h
 
 start_size : (left : Left) (xs : List ℕ) (n c : ℕ) → ReadsStart left xs true n c → n ≡ 0
-start_size (Definite zero) xs n c h = absurd h
 start_size (Definite (suc k)) xs n c h = h.0
 start_size Indefinite xs n c h = h.2
-start_size Ended xs n c h = absurd h
+start_size _ xs n c h = absurd h
 
 -- the bytes stay where a part comes
 start_stays : (left : Left) {a m : View} → Sound (ReadsStart left) a m true → (xs : List ℕ)
@@ -131,17 +126,14 @@ none_part reads left xs budget m d start none (Some v) n c r f =
 
 start_free : (left : Left) (xs : List ℕ) (n c : ℕ) → ReadsStart left xs true n c
     → ReadsStart left xs true 0 0
-start_free (Definite zero) xs n c h = h
 start_free (Definite (suc k)) xs n c h = (refl, refl)
 start_free Indefinite xs n c h = (h.0, h.1, refl, refl)
-start_free Ended xs n c h = h
+start_free _ xs n c h = h
 
 module _ {V E : Type 0} (left : Left) (s : Format V) {a m : View} where
   pub next_end : Decodes {E = E} (start_format left) a m (Ok false)
       → Decodes {E = E} (next_part_format left s) a m (Ok None)
-  next_end d =
-      ok (next_part_format left s) d.moves.by (λ some. cc)
-      (sound_by d.sound (end_read s.reads left))
+  next_end d = search (rules, ok, sound_by, end_read)
 
   pub next_rejected : {exact : Bool} {e : DecodeError E} → Decodes (start_format left) a m (Err e)
       → DecodesIf exact (next_part_format left s) a m (Err e)
@@ -188,9 +180,8 @@ same_left Ended v w = refl
 
 pub less_fuel : (left : Left) (bound rest most : ℕ) → fuel left bound + 1 ≤ most → rest ≤ bound
     → fuel left rest + 1 ≤ most
-less_fuel (Definite k) bound rest most less room = less
 less_fuel Indefinite bound rest most less room = omega (arith, less, room)
-less_fuel Ended bound rest most less room = less
+less_fuel _ bound rest most less room = less
 
 -- after a start that says so
 pub left_started : {V : Type 0} (old new : Left) (v : V) → LeftAfterStart old new true
@@ -203,8 +194,7 @@ pub left_ended : (V : Type 0) (old new : Left) → LeftAfterStart old new false
     → new ≡ left_then {V = V} old None
 left_ended V (Definite k) new h =
     h.1 ∙ ap Definite (let e : 0 ≡ k - 1 = omega (arith, h.0) in e)
-left_ended V Indefinite new h = h
-left_ended V Ended new h = h
+left_ended V _ new h = h
 
 pub tried_started : (old new : Left) → LeftAfterStart old new true → new ≡ left_tried old
 tried_started (Definite k) new h = h.1

@@ -1,5 +1,5 @@
 -- A value that is handed on as another one.
-use Rattle.std.proofs.Common.{◌≡◌, ℕ, List, Result, Ok, Err, IsTrue, refl, sym, ap, subst}
+use Rattle.std.proofs.Common.{◌≡◌, ℕ, List, Result, Ok, Err, IsTrue, refl, sym, ap, subst, rules}
 use Rattle.cbor4ii_rw.specs.View.{View}
 use Rattle.cbor4ii_rw.specs.declared.error.DecodeError.{DecodeError as CoreError}
 use Rattle.cbor4ii_items.specs.Decoding.{Format, Decodes, format_by}
@@ -44,8 +44,7 @@ copied s content copy IsOwned takes back (Ok v) (Ok w) h d =
     another_ok s content copy h.handed.1 d
 copied s content copy IsOwned takes back (Err f) (Ok w) h d = absurd h.handed
 copied s content copy IsOwned takes back {a = a} {b = b} (Ok v) (Err e) h d =
-    subst (λ z. Decodes (format_by copy s) a b (Err (as_core z))) (sym h.rejected)
-    (out_of_memory (format_by copy s) takes d.moves.by)
+    search (rules, out_of_memory)
 copied s content copy IsOwned takes back {a = a} {b = b} (Err f) (Err e) h d =
     subst (λ z. Decodes (format_by copy s) a b (Err (as_core z))) (sym h.rejected)
     (another_err s content copy back d)

@@ -1,6 +1,6 @@
 -- What a call promises of a typed value, reported of the codec's answer and of its own.
 use Rattle.std.proofs.Common.{◌+◌, ◌≤◌, Option, Some, None, Result, Ok, Err, IfOk, IfErr}
-use Rattle.std.proofs.Common.{IsTrue, true, refl}
+use Rattle.std.proofs.Common.{IsTrue, true, refl, rules}
 use Rattle.std.specs.Prelude.{OnOk, OnSome}
 use Rattle.cbor4ii_rw.specs.View.{View}
 use Rattle.cbor4ii_rw.specs.declared.error.DecodeError.{DecodeError as CoreError}
@@ -44,24 +44,8 @@ pub known : {V E : Type 0} (p : Promise V) {a b : View} (r : Result V (DecodeErr
     → IfErr r (λ e. Rejects p.format.rejects a b (as_core e)))
     → (IsTrue p.known → IfErr r (λ e. Rejects p.format.begins a b (as_core e)))
     → Deserializes p a b (answer_of r)
-known p (Ok v) moves progress memory sound complete rejects begins = record {
-  moves = moves;
-  progress = progress;
-  memory = memory;
-  sound = sound;
-  complete = complete;
-  rejects = rejects;
-  begins = begins;
-}
-known p (Err e) moves progress memory sound complete rejects begins = record {
-  moves = moves;
-  progress = progress;
-  memory = memory;
-  sound = sound;
-  complete = complete;
-  rejects = rejects;
-  begins = begins;
-}
+known p (Ok v) moves progress memory sound complete rejects begins = search rules
+known p (Err e) moves progress memory sound complete rejects begins = search rules
 
 -- a call of the codec
 pub decoded : {V E : Type 0} (p : Promise V) {a b : View} {r : Result V (CoreError E)}

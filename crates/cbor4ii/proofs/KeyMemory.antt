@@ -1,13 +1,11 @@
 -- Where a struct may want memory, by its fields and their keys.
 use Rattle.std.proofs.Common.{◌≡◌, ◌-◌, ◌≤◌, ℕ, ℤ, List, length, take, drop, Result, Ok, Err}
-use Rattle.std.proofs.Common.{Bool, true, false, IsTrue, inl, inr, sym, ap, subst}
+use Rattle.std.proofs.Common.{Bool, true, false, IsTrue, inl, inr, ap, rules}
 use Rattle.std.specs.Prelude.{◌||◌, IfErr}
 use denote.Ref.{Bor}
 use Rattle.cbor4ii_rw.specs.View.{View}
-use Rattle.cbor4ii_rw.specs.Reader.{KeepsAllButBudget}
 use Rattle.cbor4ii_rw.specs.declared.error.DecodeError.{DecodeError}
 use Rattle.cbor4ii_items.specs.InputError.{is_out_of_memory}
-use Rattle.cbor4ii_items.specs.Moves.{Kept}
 use Rattle.cbor4ii_items.specs.Laws.Pairs.{or_left, or_right}
 use Rattle.cbor4ii.specs.FieldKey.{labels_by}
 use Rattle.cbor4ii.specs.Keys.{AnyView, TextComes, WantsByKeys, as_key}
@@ -47,21 +45,12 @@ module _ (may : View → Type 0) where
       → is_out_of_memory e ≡ false → WantsByKeys {V = V} may takes a (Err e)
   wants_never V a takes e never = λ out. (let yes : is_out_of_memory e ≡ true = out in cc)
 
-  -- after something was read
-  pub wants_after : ((a m : View) → Kept a m → may m → may a) → {V E : Type 0} {a m : View}
-      (takes : Bool) (r : Result V (DecodeError E)) → Kept a m → WantsByKeys may takes m r
-      → WantsByKeys may takes a r
-  wants_after before takes (Ok v) kept wants = tt
-  wants_after before {a = a} {m = m} takes (Err e) kept wants = λ out. elim (wants out)
-      [ inl t ↦ inl t | inr c ↦ inr (before a m kept c) ]
-
-  -- under a step that was taken
-  pub wants_under : ((a m : View) → KeepsAllButBudget a m → may m → may a) → {V E : Type 0}
-      {a m : View} (takes : Bool) (r : Result V (DecodeError E)) → KeepsAllButBudget a m
-      → WantsByKeys may takes m r → WantsByKeys may takes a r
-  wants_under before takes (Ok v) keeps wants = tt
-  wants_under before {a = a} {m = m} takes (Err e) keeps wants = λ out. elim (wants out)
-      [ inl t ↦ inl t | inr c ↦ inr (before a m keeps c) ]
+  -- after something was read, or under a step that was taken
+  pub wants_after : {V E : Type 0} (a m : View) (takes : Bool) (r : Result V (DecodeError E))
+      → (may m → may a) → WantsByKeys may takes m r → WantsByKeys may takes a r
+  wants_after a m takes (Ok v) before wants = tt
+  wants_after a m takes (Err e) before wants = λ out. elim (wants out)
+      [ inl t ↦ inl t | inr c ↦ inr (before c) ]
 
   -- ---- the fields after the first
 
@@ -78,17 +67,12 @@ module _ (may : View → Type 0) where
         (some : 1 ≤ length keys) where
       pub wants_first : IfErr r (λ e. IsTrue (is_out_of_memory e) → IsTrue p.format.takes_memory)
           → WantsByKeys may (fields_by place p others (labels_by label keys)).takes_memory a r
-      wants_first memory =
-          wants_as a p.format.takes_memory
-          (fields_by place p others (labels_by label keys)).takes_memory r
-          (λ t. subst IsTrue (sym (at_split d some)) (or_left p.format.takes_memory _ t)) memory
+      wants_first memory = search (rules, wants_as, at_split, or_left)
 
       pub wants_below : WantsByKeys may
           (others (labels_by label (take (length keys - 1) (drop 1 keys)))).takes_memory a r
           → WantsByKeys may (fields_by place p others (labels_by label keys)).takes_memory a r
-      wants_below wants =
-          wants_more a _ (fields_by place p others (labels_by label keys)).takes_memory r
-          (λ t. subst IsTrue (sym (at_split d some)) (or_right p.format.takes_memory _ t)) wants
+      wants_below wants = search (rules, wants_more, at_split, or_right)
 
 pub wants_integer : {E : Type 0} (a : View) (r : Result ℤ (TypedError E))
     → IfErr (answer_of r) (λ e. IsTrue (is_out_of_memory e) → IsTrue false)

@@ -1,5 +1,5 @@
 -- Keys that are integers, and what follows them.
-use Rattle.std.proofs.Common.{◌≡◌, ◌≢◌, ◌/◌, ◌∙◌, ℕ, ℤ, List, [], ◌∷◌, take, drop, Option}
+use Rattle.std.proofs.Common.{◌≡◌, ◌≢◌, ◌/◌, ◌∙◌, ℕ, ℤ, List, [], ◌∷◌, take, drop, Option, rules}
 use Rattle.std.proofs.Common.{Some, Result, Ok, Err, Bool, true, false, refl, sym, ap, subst, arith}
 use Rattle.std.specs.Prelude.{codes, nat_eq}
 use denote.Ref.{Bor}
@@ -146,10 +146,4 @@ module _ {E : Type 0} {a b : View} where
   pub key_placed : {labels : List (Bor (List ℕ))} {at : ℕ} (key : Option ℤ)
       → Decodes {E = E} (key_format integer_key) a b (Ok (label_of key))
       → StandsAt (label_of key) labels at → KeyAt integer_key labels at a b
-  key_placed key d which = record {
-    label = label_of key;
-    kept = d.moves.by;
-    progress = d.progress refl;
-    read = d.sound;
-    which = which;
-  }
+  key_placed key d which = search rules

@@ -1,6 +1,6 @@
 -- Keys of fields, among others, by the labels that they have.
 use Rattle.std.proofs.Common.{◌≡◌, ◌≢◌, ◌-◌, ◌<◌, ◌≤◌, ℕ, zero, suc, List, [], ◌∷◌, length, take}
-use Rattle.std.proofs.Common.{drop, get_or, refl, sym, ap, ◌∙◌, subst, arith}
+use Rattle.std.proofs.Common.{drop, get_or, refl, sym, ap, ◌∙◌, subst, arith, rules}
 use Rattle.std.proofs.Math.Seq.{take-length}
 use denote.Ref.{Bor}
 use Rattle.cbor4ii.specs.FieldKey.{labels_by, same_name}
@@ -78,16 +78,12 @@ module _ {K : Type 0} (label : K → Bor (List ℕ)) where
   pub stands_here : (name : List ℕ) (keys : List K) (at : ℕ) (d : K)
       → OtherKeys name keys at → at < length keys → name ≡ (label (get_or keys at d)).now
       → StandsAt name (labels_by label keys) at
-  stands_here name keys at d others less is =
-      stands_by name keys at others (omega (arith, less)) (λ e h.
-      is ∙ ap (λ (k : K). (label k).now) (same_key keys at d e less))
+  stands_here name keys at d others less is = search (rules, stands_by, same_key)
 
   -- none has
   pub stands_nowhere : (name : List ℕ) (keys : List K) (at : ℕ) → OtherKeys name keys at
       → at ≡ length keys → StandsAt name (labels_by label keys) (length keys)
-  stands_nowhere name keys at others all =
-      subst (StandsAt name (labels_by label keys)) all
-      (stands_by name keys at others (omega (arith, all)) (λ d h. absurd (omega (arith, h, all))))
+  stands_nowhere name keys at others all = search (rules, stands_by)
 
 -- ---- names
 

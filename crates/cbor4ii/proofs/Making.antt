@@ -1,5 +1,5 @@
 -- What a call answers that makes a value of another one.
-use Rattle.std.proofs.Common.{◌≡◌, inl, inr, ℕ, List, drop, Result, Ok, Err, refl, subst}
+use Rattle.std.proofs.Common.{◌≡◌, inl, inr, ℕ, List, drop, Result, Ok, Err, refl, subst, rules}
 use denote.Ref.{Bor}
 use Rattle.cbor4ii_rw.specs.View.{View}
 use Rattle.cbor4ii_rw.specs.declared.error.DecodeError.{DecodeError}
@@ -19,9 +19,7 @@ module _ {V W E : Type 0} (p : Promise V) {a b : View} where
   -- it was made
   pub from_ok : {v : V} {w : W} (gives : V → W → Type 0) → gives v w
       → Deserializes {E = E} p a b (Ok v) → Deserializes {E = E} (made_from gives p) a b (Ok w)
-  from_ok {v = v} gives made d =
-      ok (made_from gives p) d.moves.by d.progress
-      (sound_by d.sound (λ xs n c r. record { part = v; read = r; made = made }))
+  from_ok {v = v} gives made d = search (rules, ok, sound_by)
 
   pub from_err : {e : DecodeError E} (gives : V → W → Type 0) → Deserializes p a b (Err e)
       → Deserializes (made_from gives p) a b (Err e)
@@ -40,9 +38,7 @@ module _ {V W E : Type 0} (p : Promise V) {a b : View} where
   pub made_ok : {v : V} {w : W} (value : V → Result W (List ℕ)) → value v ≡ Ok w
       → Deserializes {E = E} p a b (Ok v)
       → Deserializes {E = E} (made_or_rejected value p) a b (Ok w)
-  made_ok {v = v} value made d =
-      ok (made_or_rejected value p) d.moves.by d.progress
-      (sound_by d.sound (λ xs n c r. record { part = v; read = r; made = made }))
+  made_ok {v = v} value made d = search (rules, ok, sound_by)
 
   pub made_err : {e : DecodeError E} (value : V → Result W (List ℕ)) → Deserializes p a b (Err e)
       → Deserializes (made_or_rejected value p) a b (Err e)

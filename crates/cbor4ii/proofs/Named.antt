@@ -1,6 +1,6 @@
 -- A key, and what follows it.
 use Rattle.std.proofs.Common.{◌+◌, inl, inr, ℕ, List, drop, Result, Ok, Err, Bool, max, refl}
-use Rattle.std.proofs.Common.{subst, arith}
+use Rattle.std.proofs.Common.{arith, rules}
 use Rattle.cbor4ii_rw.specs.View.{View}
 use Rattle.cbor4ii_rw.specs.declared.error.DecodeError.{DecodeError}
 use Rattle.cbor4ii_items.specs.Decoding.{Reads, NoneRead, Decodes, DecodesIf}
@@ -29,14 +29,7 @@ module _ {W E : Type 0} (key : FieldKey) (named : List ℕ → Reads W)
     no_value : (xs : List ℕ) (i k : ℕ) → key.reads xs label i k
         → NoneRead (named label) (drop i xs) a.budget
         → NoneRead (keyed_pair key named rejects begins same owned).reads xs a.budget
-    no_value xs i k read none g n c q fits =
-        let is = key.laws.one xs q.0 label q.1.key_size i q.1.key_cost k q.1.key read in
-        none g q.1.value_size q.1.value_cost
-        (subst (λ z. named z (drop i xs) g q.1.value_size q.1.value_cost) is.2
-        (subst (λ j. named q.0 (drop j xs) g q.1.value_size q.1.value_cost) is.0
-        q.1.value))
-        (fits_less q.1.value_cost c a.budget
-        (less_max_right c q.1.key_cost q.1.value_cost q.1.cost) fits)
+    no_value xs i k read none g n c q fits = search (rules, fits_less, less_max_right)
 
     pub entry_then : {exact : Bool} {b : View} (r : Result W (DecodeError E))
         → DecodesIf exact (named_part named rejects begins same owned label) m b r

@@ -1,7 +1,7 @@
 -- Names of fields, found among some names and taken.
-use Rattle.std.proofs.Common.{◌-◌, ◌≡◌, inl, ℕ, suc, ◌+◌, ◌<◌, ◌≤◌, ◌/◌, ◌%◌, List, []}
+use Rattle.std.proofs.Common.{◌≡◌, inl, ℕ, suc, ◌+◌, ◌<◌, ◌≤◌, ◌/◌, ◌%◌, List, []}
 use Rattle.std.proofs.Common.{◌∷◌, length, take, drop, get_or, slice_index_or, Result, Ok, Err}
-use Rattle.std.proofs.Common.{refl, sym, ap, ap₂, ◌∙◌, subst, arith, ◌++◌}
+use Rattle.std.proofs.Common.{refl, sym, ap, ap₂, ◌∙◌, subst, arith, ◌++◌, rules}
 use Rattle.std.proofs.Math.Seq.{take-append_seam}
 use Rattle.std.proofs.lemmas.List.{length-take-le, take-append-drop, append_assoc}
 use Rattle.std.specs.Prelude.{IsUtf8, IfSome, Option, None, Some, true, codes}
@@ -30,7 +30,7 @@ use Rattle.cbor4ii_items.specs.Laws.Heads.{rest_after_head}
 use Rattle.cbor4ii.specs.Names.{StandsAt, StandsAfter, IfWholeAfter, IsWholeName, IfWhole}
 use Rattle.cbor4ii.specs.Names.{KeyAt, TakesKey}
 use Rattle.cbor4ii.specs.declared.serde.de.names.Seen.{Seen}
-use Rattle.cbor4ii.specs.declared.serde.de.names.Seen.TheVariants.{Whole, Cut, Other}
+use Rattle.cbor4ii.specs.declared.serde.de.names.Seen.TheVariants.{Whole}
 use Rattle.cbor4ii.specs.Typed.{typed_format}
 use Rattle.cbor4ii.proofs.Forms.{sound_by}
 
@@ -39,12 +39,7 @@ use Rattle.cbor4ii.proofs.Forms.{sound_by}
 pub stands_after : (names : List (Bor (List ℕ))) (shown : List ℕ) (before size k at : ℕ)
     → before + size ≤ length shown → StandsAt (take k (drop before shown)) names at → k ≡ size
     → IsUtf8 (take k (drop before shown)) → StandsAfter names shown before size at (before + size)
-stands_after names shown before size k at within which same utf8 = record {
-  whole = refl;
-  within = within;
-  utf8 = subst (λ j. IsUtf8 (take j (drop before shown))) same utf8;
-  which = subst (λ j. StandsAt (take j (drop before shown)) names at) same which;
-}
+stands_after names shown before size k at within which same utf8 = search rules
 
 first_of : (b size : ℕ) → b / 32 ≡ 3 → size ≡ b % 32 → b ≡ 0x60 + size
 first_of b size high low = omega (arith, high, low)
@@ -80,8 +75,7 @@ pub short_name : (names : List (Bor (List ℕ))) (shown : List ℕ) (size : ℕ)
     → IfWholeAfter names shown 1 size r → IfWhole names shown r
 short_name names shown size (Whole at n) some high low few bytes s =
     short_by names shown at size n some high low few bytes s
-short_name names shown size (Cut n) some high low few bytes s = tt
-short_name names shown size Other some high low few bytes s = tt
+short_name names shown size _ some high low few bytes s = tt
 
 lowest : (v : ℕ) → v < 256 → v ≡ v % 256
 lowest v small = omega (arith, small)
@@ -89,8 +83,6 @@ lowest v small = omega (arith, small)
 long_by : (names : List (Bor (List ℕ))) (shown : List ℕ) (at n : ℕ) → 2 ≤ length shown
     → slice_index_or shown 0 0 ≡ 0x78 → ((i : ℕ) → get_or shown i 0 < 256)
     → StandsAfter names shown 2 (slice_index_or shown 1 0) at n → IsWholeName names shown at n
-long_by names [] at n some first bytes s = absurd (omega (arith, some))
-long_by names (b ∷ []) at n some first bytes s = absurd (omega (arith, some))
 long_by names (b ∷ size ∷ bs) at n some first bytes s =
     let long : length (take size bs) ≡ size =
     length-take-le size bs (omega (arith, s.whole, s.within)) in
@@ -111,6 +103,7 @@ long_by names (b ∷ size ∷ bs) at n some first bytes s =
       bytes = first_bytes n (b ∷ size ∷ bs) bytes;
       which = s.which;
     }
+long_by names _ at n some first bytes s = absurd (omega (arith, some))
 
 -- after a head of two bytes
 pub long_name : (names : List (Bor (List ℕ))) (shown : List ℕ) (r : Seen) → 2 ≤ length shown
@@ -118,8 +111,7 @@ pub long_name : (names : List (Bor (List ℕ))) (shown : List ℕ) (r : Seen) �
     → IfWholeAfter names shown 2 (slice_index_or shown 1 0) r → IfWhole names shown r
 long_name names shown (Whole at n) some first bytes s =
     long_by names shown at n some first bytes s
-long_name names shown (Cut n) some first bytes s = tt
-long_name names shown Other some first bytes s = tt
+long_name names shown _ some first bytes s = tt
 
 -- the bytes begin with it
 definite_name : (xs name : List ℕ) (w : Width) (n : ℕ) → byte_count w ≤ 1

@@ -1,5 +1,5 @@
 -- A vector of the parts that were read, and what is built of them.
-use Rattle.std.proofs.Common.{◌≡◌, ℕ, List, Bool, Result, Ok, Err, refl}
+use Rattle.std.proofs.Common.{◌≡◌, ℕ, List, Bool, Result, Ok, Err, refl, rules}
 use Rattle.std.specs.declared.alloc.Global.{Global}
 use Rattle.std.specs.declared.cmp.Ordering.{Ordering}
 use Rattle.std.specs.declared.vec.Vec.{Vec}
@@ -29,9 +29,7 @@ module _ {K V M E : Type 0} (entries : M → List (K × V)) (cmp : K → K → O
     (s : Format (List (K × V))) {exact : Bool} {a b : View} where
   pub map_ok : {m : M} {ps : List (K × V)} → entries m ≡ built_pairs cmp ps
       → DecodesIf {E = E} exact s a b (Ok ps) → Decodes {E = E} (built_map entries cmp s) a b (Ok m)
-  map_ok {ps = ps} is d =
-      ok (built_map entries cmp s) d.moves.by d.progress
-      (sound_by d.sound (λ xs n c r. (ps, r, is)))
+  map_ok {ps = ps} is d = search (rules, ok, sound_by)
 
   pub map_err : {e : CoreError E} → DecodesIf exact s a b (Err e)
       → DecodesIf exact (built_map entries cmp s) a b (Err e)

@@ -1,4 +1,5 @@
 -- Whether a value comes, and that value.
+use Rattle.std.proofs.Common.{rules}
 use Rattle.std.proofs.Common.{◌≡◌, ◌≢◌, ◌⊎◌, inl, ℕ, ◌≤◌, List, [], ◌∷◌, length, take, Option}
 use Rattle.std.proofs.Common.{Some, None, Bool, true, false, refl, sym, ap, ◌∙◌, subst, arith}
 use Rattle.std.specs.Prelude.{codes}
@@ -48,10 +49,7 @@ none_present xs b budget e p q zero (Some v) n c r fits =
 pub no_step_complete : {E : Type 0} {name : Bor (List ℕ)} {a m : View} {b : ℕ} (left : Option ℕ)
     → Saw a m b → b ≢ 0xf6 → b ≢ 0xf7 → StepsIn m.budget left false
     → Complete {E = E} ReadsPresence a (DepthOverflow name)
-no_step_complete {a = a} {m = m} {b = b} left s p q none = record {
-  at = λ xs known. none_present xs b a.budget (s.first xs known).1 p q
-      (sym s.budget ∙ (no_step m.budget left none).0);
-}
+no_step_complete {a = a} {m = m} {b = b} left s p q none = search (rules, none_present, no_step)
 
 rejects_there : (name : Bor (List ℕ)) (xs : List ℕ) (budget : Option ℕ) → name.now ≡ codes "option"
     → 1 ≤ length xs → (BeginsNull xs → ⊥) → budget ≡ Some 0
@@ -101,19 +99,7 @@ no_value_comes is none = let no : true ≡ false = sym is ∙ none in cc
 
 -- where no value comes no step is given back
 pub unmoved : {some : Bool} {a b : View} → some ≡ false → Closes (steps_of_some some) a b → b ≡ a
-unmoved {a = a} {b = b} none z =
-    let closes = subst (λ some. Closes (steps_of_some some) a b) none z in
-    λ i. record {
-      known = closes.others.known i;
-      bound = closes.others.bound i;
-      advanceable = closes.others.advanceable i;
-      budget = closes.budget i;
-      failures = closes.others.failures i;
-      taken = closes.others.taken i;
-      zero_copy = closes.others.zero_copy i;
-      remembers = closes.others.remembers i;
-      ends_at = closes.others.ends_at i;
-    }
+unmoved {a = a} {b = b} none z = search rules
 
 -- the step is given back, and what was taken stays taken
 pub value_sound : {V : Type 0} (reads : Reads V) {some : Bool} {a b d : View} {v : V} → some ≡ true

@@ -1,5 +1,5 @@
 -- What calls promise together of a typed value.
-use Rattle.std.proofs.Common.{◌+◌, ◌≤◌, Result, Ok, Err, IsTrue}
+use Rattle.std.proofs.Common.{◌+◌, ◌≤◌, Result, Ok, Err, IsTrue, rules}
 use Rattle.cbor4ii_rw.specs.View.{View}
 use Rattle.cbor4ii_rw.specs.declared.error.DecodeError.{DecodeError}
 use Rattle.cbor4ii_rw.specs.declared.error.DecodeError.TheVariants.{OutOfMemory}
@@ -13,30 +13,14 @@ use Rattle.cbor4ii.proofs.Beginnings.{said_left}
 -- all that is decoded so is promised
 pub promised : {V E : Type 0} (p : Promise V) {a b : View} {r : Result V (DecodeError E)}
     → DecodesIf p.exact p.format a b r → Deserializes p a b r
-promised p d = record {
-  moves = d.moves;
-  progress = d.progress p.some;
-  memory = d.memory;
-  sound = d.sound;
-  complete = d.complete;
-  rejects = d.rejects;
-  begins = λ is. d.begins;
-}
+promised p d = search rules
 
 -- and of an exact type all is reported
 pub whole : {V E : Type 0} {p : Promise V} {a b : View} {r : Result V (DecodeError E)}
     → IsTrue p.exact → IsTrue p.known → Deserializes p a b r
     → Decodes (typed_format p.format.reads p.format.same p.format.begins p.format.owned
     p.format.takes_memory) a b r
-whole is reports d = record {
-  moves = d.moves;
-  progress = λ some. d.progress;
-  memory = d.memory;
-  sound = d.sound;
-  complete = d.complete is;
-  rejects = λ sure. d.begins reports;
-  begins = d.begins reports;
-}
+whole is reports d = search rules
 
 module _ {V E : Type 0} (p : Promise V) {a b : View} where
   pub ok : {v : V} → Kept a b → b.bound + 1 ≤ a.bound → Sound p.format.reads a b v
@@ -53,14 +37,4 @@ pub tell : {V E : Type 0} (p : Promise V) {a b : View} (r : Result V (DecodeErro
     → Deserializes p a b r → DecodesIf p.exact (part_of p) a b r
 tell p (Ok v) d =
     of_exact (decoded_ok (part_of p) d.moves.by (λ some. d.progress) d.sound)
-tell p (Err e) d =
-    let begins = said_left p.known p.format.begins d.moves d.begins in
-    record {
-      moves = d.moves;
-      progress = λ some. tt;
-      memory = d.memory;
-      sound = tt;
-      complete = d.complete;
-      rejects = d.rejects;
-      begins = begins;
-    }
+tell p (Err e) d = search (rules, said_left)

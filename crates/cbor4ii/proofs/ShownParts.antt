@@ -1,7 +1,7 @@
 -- Parts that a look shows.
 use Rattle.std.proofs.Common.{◌≡◌, ℕ, ◌+◌, ◌-◌, ◌≤◌, List, [], ◌∷◌, ◌++◌, length, take, drop, Bool}
 use Rattle.std.proofs.Common.{true, false, IsTrue, refl, sym, ap, ◌∙◌, subst, arith, max}
-use Rattle.std.proofs.Common.{Some, ◌≢◌, inl, inr, append_assoc, length-append, get_or}
+use Rattle.std.proofs.Common.{Some, ◌≢◌, inl, inr, append_assoc, length-append, get_or, rules}
 use Rattle.std.specs.Prelude.{MatchBool}
 use Rattle.std.proofs.lemmas.List.{append-nil, length-drop, take_all, take-append-drop}
 use Rattle.std.proofs.lemmas.List.{drop-append-le}
@@ -145,19 +145,7 @@ takes_run reads {shown = shown} {n = n} false s prefix within bytes fits put adv
 
 module _ {P : Type 0} (s : Format P) where
   pub begun_none : {a m : View} {ps : List P} → ps ≡ [] → Stays a m → Begun s (length ps) a m ps
-  begun_none {a = a} {m = m} {ps = ps} none stays = record {
-    kept = stays.kept;
-    count = refl;
-    parts = subst (Sound (ReadsElements s.reads) a m) (sym none) (record {
-      at = λ xs known. record {
-        count = 0;
-        cost = 0;
-        read = (refl, refl);
-        fits = fits_zero a.budget;
-        left = stays.known xs known;
-      };
-    });
-  }
+  begun_none {a = a} {m = m} {ps = ps} none stays = search (rules, fits_zero)
 
   -- those of one look after them
   pub begun_run : {a m b : View} {i : ℕ} {ps qs : List P} → Begun s i a m ps

@@ -1,8 +1,9 @@
 -- What is read under one step, and what is not.
-use Rattle.std.proofs.Common.{◌≡◌, IsTrue, inl, inr, false, ℕ, ◌+◌, true, List, Option, Some, None}
+use Rattle.std.proofs.Common.{rules}
+use Rattle.std.proofs.Common.{◌≡◌, inl, inr, false, ℕ, ◌+◌, true, List, Option, Some, None}
 use Rattle.std.proofs.Common.{Result, Ok, Err, refl, sym, ap, ◌∙◌, subst, arith, IfSome, Bool}
 use Rattle.cbor4ii_rw.specs.View.{View}
-use Rattle.cbor4ii_rw.specs.Reader.{ReaderFails, Failed, StepsIn, KeepsAllButBudget, step_back}
+use Rattle.cbor4ii_rw.specs.Reader.{ReaderFails, StepsIn, KeepsAllButBudget, step_back}
 use Rattle.cbor4ii_rw.specs.declared.error.DecodeError.{DecodeError}
 use Rattle.cbor4ii.specs.declared.serde.de.accessor.Left.{Left}
 use Rattle.cbor4ii.specs.Accessing.{OpensParts, left_after}
@@ -23,20 +24,7 @@ use denote.Ref.{Bor}
 -- the reader failed under the step that was taken, and the step is given back
 pub breaks_stepped : {a b c d : View} → StepsIn a.budget b.budget true → KeepsAllButBudget a b
     → ReaderFails b c → d.budget ≡ step_back c.budget → KeepsAllButBudget c d → ReaderFails a d
-breaks_stepped {a = a} {b = b} {d = d} takes i k gives o = record {
-  known = λ xs known ys left. k.known xs (i.known ∙ known) ys (sym o.known ∙ left);
-  kept = λ is xs known. o.known ∙ k.kept (subst IsTrue (sym i.remembers) is) xs (i.known ∙ known);
-  bound = omega (arith, k.bound, i.bound, o.bound);
-  budget = gives ∙ (ap step_back k.budget ∙ step_again a.budget b.budget takes);
-  failures =
-      subst (λ n. Failed n d.failures) i.failures
-      (subst (λ n. Failed b.failures n) (sym o.failures) k.failures);
-  taken = o.taken ∙ (k.taken ∙ i.taken);
-  zero_copy =
-      λ h. subst IsTrue (sym o.zero_copy) (k.zero_copy (subst IsTrue (sym i.zero_copy) h));
-  remembers = λ h. subst IsTrue (sym o.remembers) (k.remembers (subst IsTrue (sym i.remembers) h));
-  ends_at = o.ends_at ∙ (k.ends_at ∙ i.ends_at);
-}
+breaks_stepped {a = a} {b = b} {d = d} takes i k gives o = search (rules, step_again)
 
 -- an error under the step that was taken
 pub complete_stepped : {V E : Type 0} (reads : List ℕ → V → ℕ → ℕ → Type 0) {a b : View}
@@ -91,18 +79,7 @@ pub rejects_no_step : {E : Type 0} (name : Bor (List ℕ))
     (rejects : List ℕ → Option ℕ → InputError → List ℕ → Type 0) {a b : View}
     → StepsIn a.budget b.budget false → KeepsAllButBudget a b
     → Rejects {E = E} (RejectsStepped name.now rejects) a b (DepthOverflow name)
-rejects_no_step name rejects {a = a} {b = b} h k =
-    record {
-      at = λ xs known. (
-        xs,
-        k.known ∙ known,
-        inl (
-          none_left a.budget b.budget h,
-          refl,
-          refl,
-        ),
-      );
-    }
+rejects_no_step name rejects {a = a} {b = b} h k = search (rules, inl, none_left)
 
 pub over_none : (budget : Option ℕ) (c : ℕ) → budget ≡ Some 0 → CostFits (1 + c) budget → ⊥
 over_none None c e fits = cc
@@ -111,35 +88,21 @@ over_none (Some left) c e fits = let z : left ≡ 0 = cc in omega (arith, z, fit
 pub complete_no_step : {V E : Type 0} (reads : List ℕ → V → ℕ → ℕ → Type 0) (name : Bor (List ℕ))
     (a b : View) → StepsIn a.budget b.budget false
     → Complete {E = E} (Stepped reads) a (DepthOverflow name)
-complete_no_step reads name a b h = record {
-  at = λ xs known v n c read fits. over_none a.budget read.0 (none_left a.budget b.budget h)
-      (subst (λ k. CostFits k a.budget) read.2 fits);
-}
+complete_no_step reads name a b h = search (rules, over_none, none_left)
 
 module _ {V E : Type 0} (s : Format V) where
   pub no_step_left : (name : Bor (List ℕ)) {a b : View}
       → Moves {V = V} {E = E} a b (Err (DepthOverflow name)) → StepsIn a.budget b.budget false
       → KeepsAllButBudget a b
       → Decodes {E = E} (stepped_format name.now s) a b (Err (DepthOverflow name))
-  no_step_left name {a = a} {b = b} moves takes inward = record {
-    moves = moves;
-    progress = λ some. tt;
-    memory = λ out. cc;
-    sound = tt;
-    complete = λ sure. complete_no_step s.reads name a b takes;
-    rejects = λ sure. rejects_no_step name s.rejects takes inward;
-    begins = rejects_no_step name s.begins takes inward;
-  }
+  no_step_left name {a = a} {b = b} moves takes inward = search (rules, complete_no_step, rejects_no_step)
 
   pub under_if : {exact : Bool} (name : List ℕ) {a b c d : View} → StepsIn a.budget b.budget true
       → KeepsAllButBudget a b → KeepsAllButBudget c d → (r : Result V (DecodeError E))
       → d.budget ≡ step_back c.budget → DecodesIf exact s b c r
       → DecodesIf exact (stepped_format name s) a d r
   under_if name {a = a} {b = b} {c = c} {d = d} takes inward outward (Ok v) gives t =
-      of_exact (all_ok (stepped_format name s)
-      (moves_stepped (Ok v) a b c d takes inward t.moves gives outward).by
-      (λ some. omega (arith, t.progress some, inward.bound, outward.bound))
-      (sound_stepped s.reads takes inward outward t.sound))
+      search (rules, of_exact, all_ok, moves_stepped, sound_stepped)
   under_if name {a = a} {b = b} {c = c} {d = d} takes inward outward (Err e) gives t = record {
     moves = moves_stepped (Err e) a b c d takes inward t.moves gives outward;
     progress = λ some. tt;
@@ -163,13 +126,4 @@ pub parts_opened : {E : Type 0} (name : List ℕ) (major : ℕ) {a b c : View} {
     {left : Left} → StepsIn a.budget b.budget true → KeepsAllButBudget a b
     → Decodes {E = E} (length_format name major) b c (Ok count) → left ≡ left_after count
     → OpensParts major a c left
-parts_opened name major {b = b} {count = count} takes inward d begun = record {
-  within = b;
-  step = takes;
-  others = inward;
-  kept = d.moves.by;
-  progress = omega (arith, d.progress refl, inward.bound);
-  length = count;
-  head = d.sound;
-  begun = begun;
-}
+parts_opened name major {b = b} {count = count} takes inward d begun = search rules

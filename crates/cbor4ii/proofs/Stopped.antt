@@ -1,5 +1,5 @@
 -- One way to be rejected as another.
-use Rattle.std.proofs.Common.{◌≡◌, ℕ, List, Option, Some, sym, subst, ◌∙◌, IfSome}
+use Rattle.std.proofs.Common.{◌≡◌, ℕ, List, Option, Some, sym, subst, IfSome, rules}
 use Rattle.cbor4ii_rw.specs.View.{View}
 use Rattle.cbor4ii_rw.specs.Reader.{KeepsAllButBudget}
 use Rattle.cbor4ii_rw.specs.declared.error.DecodeError.{DecodeError}
@@ -19,15 +19,7 @@ stopped_as {e = e} {a = a} {b = b} f g means s =
 -- a step that is given back after it changes nothing
 pub sound_after : {V : Type 0} (reads : Reads V) {a b d : View} {v : V} → KeepsAllButBudget b d
     → Sound reads a b v → Sound reads a d v
-sound_after reads k s = record {
-  at = λ xs known. (let p = s.at xs known in record {
-    count = p.count;
-    cost = p.cost;
-    read = p.read;
-    fits = p.fits;
-    left = k.known ∙ p.left;
-  });
-}
+sound_after reads k s = search rules
 
 pub stopped_after : {E : Type 0} (rejects : RejectsAt) {a b d : View} {e : DecodeError E}
     → KeepsAllButBudget b d → Rejects rejects a b e → Rejects rejects a d e

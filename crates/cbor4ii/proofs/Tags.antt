@@ -1,4 +1,5 @@
 -- The head of a tag, and the value that it tags.
+use Rattle.std.proofs.Common.{rules}
 use Rattle.std.proofs.Common.{◌≡◌, ℕ, inl, inr, List, drop, Result, Ok, Err, refl, ap, subst, arith}
 use Rattle.std.specs.Prelude.{codes}
 use denote.Ref.{Bor}
@@ -76,13 +77,8 @@ module _ {V E : Type 0} (number : ℕ) (p : Promise V) {a m : View} where
       let both = pair_format (tag_head number) (part_of p) in
       of_exact (by_ok after_tag both refl
       (pair_ok (tag_head number) (part_of p) d (exactly_ok (tell p (Ok v) t))))
-  tagged_after (Err e) d t =
-      let both = pair_format (tag_head number) (part_of p) in
-      by_err_if after_tag both (value_err (tag_head number) (part_of p)
-      (λ is. tag_head_lawful number) d (tell p (Err e) t))
+  tagged_after (Err e) d t = search (rules, by_err_if, value_err, tag_head_lawful, tell)
 
   pub untagged : {e : DecodeError E} → Decodes (tag_head number) a m (Err e)
       → DecodesIf p.exact (tagged_format number (part_of p)) a m (Err e)
-  untagged d =
-      by_err_if after_tag (pair_format (tag_head number) (part_of p))
-      (key_err (tag_head number) (part_of p) (of_exact d))
+  untagged d = search (rules, by_err_if, key_err, of_exact)

@@ -1,4 +1,5 @@
 -- A head that counts so many, and what follows it.
+use Rattle.std.proofs.Common.{rules}
 use Rattle.std.proofs.Common.{◌≡◌, ℕ, ◌+◌, ◌<◌, ◌≤◌, inl, inr, List, drop, Option, Some, None, Bool}
 use Rattle.std.proofs.Common.{true, false, Ok, Err, refl, ap, ◌∙◌, subst, ltb, ltb-true, ltb-false}
 use Rattle.std.specs.Prelude.{codes}
@@ -107,9 +108,7 @@ module _ {V : Type 0} (count : ℕ) (s : Format V) where
 
   no_parts : (xs : List ℕ) (n : ℕ) (budget : Option ℕ) → ReadsHead 4 8 xs count n
       → NoneRead s.reads (drop n xs) budget → NoneRead (ReadsAfter count s.reads) xs budget
-  no_parts xs n budget h none v k d r fits =
-      let same = (head_one 4 8 xs count count r.before n four_small r.head h).0 in
-      none v r.between d (subst (λ j. s.reads (drop j xs) v r.between d) same r.parts) fits
+  no_parts xs n budget h none v k d r fits = search (rules, head_one, four_small)
 
   pub head_err : {E : Type 0} {exact : Bool} {a m : View} {e : DecodeError E}
       → DecodesIf exact (container_head_format count) a m (Err e)

@@ -1,4 +1,5 @@
 -- The unit.
+use Rattle.std.proofs.Common.{rules}
 use Rattle.std.proofs.Common.{◌≡◌, ◌≢◌, ℕ, List, [], ◌∷◌, take, drop, Option, refl, sym, ap, ◌∙◌}
 use Rattle.std.specs.Prelude.{codes}
 use denote.Ref.{Bor}
@@ -6,7 +7,7 @@ use Rattle.cbor4ii_rw.specs.View.{View}
 use Rattle.cbor4ii_rw.specs.Reader.{Advances}
 use Rattle.cbor4ii_rw.specs.declared.error.DecodeError.{DecodeError}
 use Rattle.cbor4ii_rw.specs.declared.error.DecodeError.TheVariants.{Mismatch}
-use Rattle.cbor4ii_items.specs.InputError.{InputError, input_error_of, mismatch}
+use Rattle.cbor4ii_items.specs.InputError.{InputError, mismatch}
 use Rattle.cbor4ii_items.specs.Next.{ReadsNext, RejectsNext}
 use Rattle.cbor4ii_items.specs.Decoding.{NoneRead, Sound, Complete, Rejects}
 use Rattle.cbor4ii_items.specs.Laws.Answering.{complete_as}
@@ -21,10 +22,7 @@ unit_sound s is adv = taken_sound s adv (λ xs e. (e ∙ ap (λ z. z ∷ []) is,
 
 pub unit_other : {E : Type 0} {a m : View} {b : ℕ} {e : DecodeError E} → Saw a m b → b ≢ 0x80
     → Complete ReadsUnit a e
-unit_other {b = b} {e = e} s not = record {
-  at = λ xs known. (let f = s.first xs known in whatever_error (input_error_of e)
-      (λ v n c r fits. (let g = f.1 in let h = r.0 in let is : b ≡ 0x80 = cc in not is)));
-}
+unit_other {b = b} {e = e} s not = search (rules, whatever_error)
 
 other_at : (b : ℕ) (xs : List ℕ) (budget : Option ℕ) → take 1 xs ≡ b ∷ [] → b ≢ 0x80
     → RejectsUnit xs budget (mismatch (codes "unit") b) (drop 1 xs)

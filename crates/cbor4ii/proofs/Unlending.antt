@@ -1,7 +1,7 @@
 -- Strings that are to be borrowed, where the reader lends nothing.
-use Rattle.std.proofs.Common.{◌≡◌, ℕ, inl, List, Result, Ok, Err, IfOk, IfErr, true, false, refl}
+use Rattle.std.proofs.Common.{◌≡◌, ℕ, inl, List, Result, Ok, Err, IfOk, IfErr, true, false}
 use Rattle.std.proofs.Common.{sym}
-use Rattle.std.proofs.Common.{◌∙◌, subst}
+use Rattle.std.proofs.Common.{◌∙◌, subst, rules}
 use Rattle.cbor4ii_rw.specs.View.{View}
 use Rattle.cbor4ii_items.specs.Decoding.{Reads, RejectsAt, IsExact, Sound, Rejects}
 use Rattle.cbor4ii_items.specs.Moves.{Moves}
@@ -43,12 +43,4 @@ module _ {V W E : Type 0} (name : List ℕ) (reads : Reads V) (rejects : Rejects
       → Deserializes (typed_by (RejectsUnlent name reads rejects) false true laws) a b (answer_of q)
   copy_rejected laws r (Ok w) a b none h moves sound begins =
       absurd (let no : false ≡ true = h.rejected in cc)
-  copy_rejected laws r (Err e) a b none h moves sound begins = record {
-    moves = copy_moves r (Err e) a b h moves;
-    progress = tt;
-    memory = λ out. refl;
-    sound = tt;
-    complete = λ is. never_exact a none;
-    rejects = λ is sure. copy_rejects r e a b h sound begins;
-    begins = λ is. copy_rejects r e a b h sound begins;
-  }
+  copy_rejected laws r (Err e) a b none h moves sound begins = search (rules, copy_moves, never_exact, copy_rejects)

@@ -1,6 +1,6 @@
 -- How a type is written and read, in one word, and that what is written is one item and read back.
 use Rattle.std.proofs.Common.{◌≡◌, ◌<◌, ◌≤◌, ◌^◌, ◌+◌, ℕ, List, [], ◌∷◌, length, max, Option, None}
-use Rattle.std.proofs.Common.{Some, All, true, inl, refl, arith, encode_utf8, IsUtf8}
+use Rattle.std.proofs.Common.{Some, All, true, inl, refl, arith, encode_utf8, IsUtf8, rules}
 use Rattle.std.specs.Prelude.{ℤ, string_bytes}
 use Rattle.std.specs.Char.{IsScalar}
 use Rattle.std.specs.Cmp.{IsTotalOrder}
@@ -117,9 +117,7 @@ signed_is_one limit le v h =
 
 pub character_is_back : (v : ℕ) → IsScalar v
     → ReadsBack (ReadsTextAs encode_utf8) (definite_string 3 (encode_utf8 v)) v 0
-character_is_back v h =
-    text_back encode_utf8 v (omega (arith, length-encode v, (len_utf8_bounds v).1))
-    (IsUtf8-encode v h)
+character_is_back v h = search (rules, text_back, length-encode, len_utf8_bounds, IsUtf8-encode)
 
 pub string_is_back : (v : String Global) → any_value v
     → IsReadBack (ReadsTextAs text_content) (encoded (definite_string 3 (string_bytes v))) v 0
@@ -204,10 +202,7 @@ vector_is_back c hold alloc v all =
 pub vector_is_one : {T : Type 0} (c : Codec T) → Hold c.facts → (v : Vec T Global)
     → All c.stands v.items
     → IsOneItem canonical (array_encoding c.encoding v.items)
-vector_is_one {T = T} c hold v all =
-    let One : T → Type 0 = λ v. IsOneItem canonical (c.encoding v) in
-    array_is_item canonical c.encoding v.items (omega (arith, v.ok.0, v.ok.1, v.small))
-    (by_recursion One v.items (all_as c.stands One (c.one hold) v.items all))
+vector_is_one {T = T} c hold v all = search (rules, array_is_item, by_recursion, all_as)
 
 -- an array of values
 abbrev pub vector_codec : {T : Type 0} → Codec T → Codec (Vec T Global)
@@ -318,15 +313,7 @@ module _ {K V M : Type 0} (entries : M → List (K × V)) (cmp : K → K → Ord
 
   pub map_is_one : Hold (both_facts k.facts v.facts) → (m : M) → StandsMap k v cmp (entries m)
       → IsOneItem canonical (map_encoding k.encoding v.encoding (entries m))
-  map_is_one hold m h =
-      let es = entries m in
-      let key_hold = first_hold k.facts v.facts hold in
-      let value_hold = others_hold k.facts v.facts hold in
-      let One : K × V → Type 0 =
-      λ e. IsOneItem canonical (k.encoding e.0) × IsOneItem canonical (v.encoding e.1) in
-      map_is_item canonical k.encoding v.encoding es h.few (by_recursion One es
-      (all_as (λ (e : K × V). k.stands e.0 × v.stands e.1) One
-      (λ e s. (k.one key_hold e.0 s.0, v.one value_hold e.1 s.1)) es h.each))
+  map_is_one hold m h = search (rules, first_hold, others_hold, map_is_item, by_recursion, all_as)
 
   -- a map of keys to values
   abbrev pub map_codec : Codec M
@@ -346,9 +333,7 @@ pub made_back : {V W : Type 0} (reads : Reads V) (gives : V → W → Type 0) (e
     (v : V)
     (w : W) (cost : ℕ) → gives v w → IsReadBack reads encoding v cost
     → IsReadBack (ReadsMade reads gives) encoding w cost
-made_back reads gives encoding v w cost made =
-    read_back_by reads (ReadsMade reads gives) v w
-    (λ xs n c r. record { part = v; read = r; made = made }) encoding cost
+made_back reads gives encoding v w cost made = search (rules, read_back_by)
 
 -- a newtype and its like: `of` is the value that it holds
 abbrev pub codec_of : {V W : Type 0} (of : W → V) (make : V → W) → ((w : W) → w ≡ make (of w))

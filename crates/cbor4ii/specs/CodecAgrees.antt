@@ -1,7 +1,7 @@
 -- That a type is written and read as its codec says, and what of it is known where the type is a
 -- type parameter.
 use Rattle.std.proofs.Common.{◌≡◌, ◌∙◌, ℕ, List, [], ◌∷◌, drop, None, Some, Bool}
-use Rattle.std.proofs.Common.{true, false, inl, inr, refl, sym, ap, subst}
+use Rattle.std.proofs.Common.{true, false, inl, inr, refl, ap, rules}
 use Rattle.std.proofs.Math.Path.{fun_ext}
 use Rattle.std.specs.Prelude.{◌&&◌, IsTrue}
 use Rattle.std.specs.declared.alloc.Global.{Global}
@@ -13,7 +13,7 @@ use Rattle.cbor4ii_items.specs.Sequences.{ReadsPair}
 use Rattle.cbor4ii_ser.specs.Item.{Encoding, option_encoding, array_encoding}
 use Rattle.cbor4ii_ser.specs.Item.{map_encoding, tuple_encoding}
 use Rattle.cbor4ii_ser.specs.OneItem.{IsOneItem, canonical}
-use Rattle.cbor4ii.specs.Codec.{Codec, no_facts, fact_before, both_facts, Hold, both_hold}
+use Rattle.cbor4ii.specs.Codec.{Codec, no_facts, fact_before, Hold, both_hold}
 use Rattle.cbor4ii.specs.Codec.{option_codec, box_codec, vector_codec, map_codec, pair_codec}
 use Rattle.cbor4ii.specs.Codec.{triple_codec}
 use Rattle.cbor4ii.specs.Laws.Backs.{read_back_by}
@@ -62,17 +62,10 @@ module _ {T : Type 0} (promise : Promise T) (encoding : T → Encoding) (c : Cod
     (agrees : AgreesWith promise encoding c) where
   pub agreed_back : (alloc : Global) (v : T) → c.stands v
       → IsReadBack promise.format.reads (encoding v) v (c.cost v)
-  agreed_back alloc v stands =
-      subst (λ (item : Encoding). IsReadBack promise.format.reads item v (c.cost v))
-      (sym (agrees.written v))
-      (read_back_by c.promise.format.reads promise.format.reads v v (λ xs. agrees.reads xs v)
-      (c.encoding v) (c.cost v)
-      (c.back agrees.facts alloc v stands))
+  agreed_back alloc v stands = search (rules, read_back_by, alloc)
 
   pub agreed_one : (v : T) → c.stands v → IsOneItem canonical (encoding v)
-  agreed_one v stands =
-      subst (λ (item : Encoding). IsOneItem canonical item) (sym (agrees.written v))
-      (c.one agrees.facts v stands)
+  agreed_one v stands = search rules
 
 -- It is written and read as the type's own code writes and reads, and stands on that this is as the
 -- type's codec says.
@@ -97,16 +90,7 @@ module _ {T : Type 0} {first second : Reads T} (also : AlsoReads first second) w
 
   pub elements_also : AlsoReads (ReadsElements first) (ReadsElements second)
   elements_also xs [] n c r = r
-  elements_also xs (p ∷ ps) n c r = (
-    r.0,
-    r.1,
-    r.2,
-    r.3,
-    also xs p r.0 r.1 r.4,
-    elements_also (drop r.0 xs) ps r.2 r.3 r.5,
-    r.6,
-    r.7,
-  )
+  elements_also xs (p ∷ ps) n c r = search (rules, (elements_also (drop r.0 xs) ps r.2 r.3 r.5))
 
   pub unbroken_also : AlsoReads (Unbroken first) (Unbroken second)
   unbroken_also xs v n c r = (r.0, also xs v n c r.1)
@@ -114,27 +98,8 @@ module _ {T : Type 0} {first second : Reads T} (also : AlsoReads first second) w
 module _ {T : Type 0} {first second : Reads T} (also : AlsoReads first second) where
   inside_also : (major : ℕ) → AlsoReads (ReadsInside major first true)
       (ReadsInside major second true)
-  inside_also major xs ps n c (inl r) = inl (record {
-    before = r.before;
-    head = r.head;
-    between = r.between;
-    parts = elements_also also (drop r.before xs) ps r.between c r.parts;
-    size = r.size;
-  })
-  inside_also major xs ps n c (inr r) =
-      let u = r.parts in
-      inr (record {
-        begins = r.begins;
-        between = r.between;
-        parts = record {
-          allowed = u.allowed;
-          between = u.between;
-          parts = elements_also (unbroken_also also) (drop 1 xs) ps u.between c u.parts;
-          ends = u.ends;
-          size = u.size;
-        };
-        size = r.size;
-      })
+  inside_also major xs ps n c (inl r) = search (rules, inl, elements_also)
+  inside_also major xs ps n c (inr r) = search (rules, inr, elements_also, unbroken_also)
 
   pub sequence_also : (major : ℕ) → AlsoReads (ReadsSequence major first true)
       (ReadsSequence major second true)
@@ -142,30 +107,11 @@ module _ {T : Type 0} {first second : Reads T} (also : AlsoReads first second) w
 
   after_also : (count : ℕ) → AlsoReads (Stepped (ReadsAfter count first))
       (Stepped (ReadsAfter count second))
-  after_also count xs v n c r = (
-    r.0,
-    record {
-      before = r.1.before;
-      head = r.1.head;
-      between = r.1.between;
-      parts = also (drop r.1.before xs) v r.1.between r.0 r.1.parts;
-      size = r.1.size;
-    },
-    r.2,
-  )
+  after_also count xs v n c r = search rules
 
 pub pair_also : {A B : Type 0} {a a' : Reads A} {b b' : Reads B} → AlsoReads a a' → AlsoReads b b'
     → AlsoReads (ReadsPair a b) (ReadsPair a' b')
-pair_also left right xs p n c r = record {
-  key_size = r.key_size;
-  key_cost = r.key_cost;
-  key = left xs p.0 r.key_size r.key_cost r.key;
-  value_size = r.value_size;
-  value_cost = r.value_cost;
-  value = right (drop r.key_size xs) p.1 r.value_size r.value_cost r.value;
-  size = r.size;
-  cost = r.cost;
-}
+pair_also left right xs p n c r = search rules
 
 triple_also : {A B C : Type 0} {a a' : Reads A} {b b' : Reads B} {c c' : Reads C} → AlsoReads a a'
     → AlsoReads b b' → AlsoReads c c' → AlsoReads (ReadsTriple a b c) (ReadsTriple a' b' c')
@@ -186,24 +132,10 @@ module _ {T : Type 0} {promise : Promise T} {encoding : T → Encoding} {c : Cod
   same_encoding = fun_ext agrees.written
 
   pub option_agrees : AgreesWith (typed_option promise) (option_encoding encoding) (option_codec c)
-  option_agrees = record {
-    facts = agrees.facts;
-    written = λ o. ap (λ (e : T → Encoding). option_encoding e o) same_encoding;
-    read = option_also agrees.read;
-    reads = option_also agrees.reads;
-    exact = agrees.exact;
-    is = agrees.is;
-  }
+  option_agrees = search (rules, same_encoding, option_also)
 
   pub box_agrees : AgreesWith (typed_box promise) (λ b. encoding b.value) (box_codec c)
-  box_agrees = record {
-    facts = agrees.facts;
-    written = λ b. agrees.written b.value;
-    read = λ xs b. agrees.read xs b.value;
-    reads = λ xs b. agrees.reads xs b.value;
-    exact = agrees.exact;
-    is = agrees.is;
-  }
+  box_agrees = search rules
 
   pub vector_agrees : AgreesWith (typed_vector promise) (λ v. array_encoding encoding v.items)
       (vector_codec c)
@@ -221,15 +153,7 @@ module _ {A B : Type 0} {first : Promise A} {second : Promise B} {one : A → En
     (right : AgreesWith second two b) where
   pub pair_agrees : AgreesWith (typed_pair first second)
       (λ p. tuple_encoding (one p.0 ∷ two p.1 ∷ [])) (pair_codec a b)
-  pair_agrees = record {
-    facts = both_hold a.facts b.facts left.facts right.facts;
-    written = λ p. ap (λ x. tuple_encoding (x ∷ two p.1 ∷ [])) (left.written p.0)
-        ∙ ap (λ y. tuple_encoding (a.encoding p.0 ∷ y ∷ [])) (right.written p.1);
-    read = after_also (pair_also left.read right.read) 2;
-    reads = after_also (pair_also left.reads right.reads) 2;
-    exact = both_exact left.exact right.exact;
-    is = both_are left.is right.is;
-  }
+  pair_agrees = search (rules, both_hold, after_also, pair_also, both_exact, both_are)
 
   -- a map agrees with its codec, where its keys and its values agree with theirs
   pub map_agrees : {M : Type 0} (entries : M → List (A × B)) (cmp : A → A → Ordering)
@@ -254,15 +178,4 @@ module _ {A B C : Type 0} {first : Promise A} {second : Promise B} {third : Prom
     (right : AgreesWith third three c) where
   pub triple_agrees : AgreesWith (typed_triple first second third)
       (λ p. tuple_encoding (one p.0 ∷ two p.1 ∷ three p.2 ∷ [])) (triple_codec a b c)
-  triple_agrees = record {
-    facts = both_hold a.facts (both_facts b.facts c.facts) left.facts
-        (both_hold b.facts c.facts middle.facts right.facts);
-    written = λ p. ap (λ x. tuple_encoding (x ∷ two p.1 ∷ three p.2 ∷ [])) (left.written p.0)
-        ∙ (ap (λ y. tuple_encoding (a.encoding p.0 ∷ y ∷ three p.2 ∷ [])) (middle.written p.1)
-        ∙ ap (λ z. tuple_encoding (a.encoding p.0 ∷ b.encoding p.1 ∷ z ∷ []))
-        (right.written p.2));
-    read = after_also (triple_also left.read middle.read right.read) 3;
-    reads = after_also (triple_also left.reads middle.reads right.reads) 3;
-    exact = both_exact left.exact (both_exact middle.exact right.exact);
-    is = both_are left.is (both_are middle.is right.is);
-  }
+  triple_agrees = search (rules, both_hold, after_also, triple_also, both_exact, both_are)

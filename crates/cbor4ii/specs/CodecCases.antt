@@ -1,7 +1,7 @@
 -- Enums in one word: how their variants are written and read, and that they are read back.
 use Rattle.std.proofs.Common.{◌≡◌, ◌≢◌, ◌+◌, ◌*◌, ◌++◌, ℕ, suc, List, [], ◌∷◌, length, max, Bool}
 use Rattle.std.proofs.Common.{true, false, IsTrue, ◌⊎◌, inl, inr, refl, sym, ap, subst, ltb, arith}
-use Rattle.std.proofs.Common.{ltb-true}
+use Rattle.std.proofs.Common.{ltb-true, rules}
 use Rattle.std.specs.Prelude.{not, bytes_eq}
 use Rattle.std.specs.declared.alloc.Global.{Global}
 use Rattle.std.proofs.lemmas.List.{append-nil}
@@ -81,9 +81,7 @@ by_choice first other (Other v) = other v
 among_apart : (own name : List ℕ) (names : List (List ℕ)) → IsTrue (is_apart own names)
     → Among name names → name ≢ own
 among_apart own name [] h among = absurd among
-among_apart own name (other ∷ names) h (inl e) =
-    let t = both (not (bytes_eq other own)) (is_apart own names) h in
-    subst (λ (text : List ℕ). text ≢ own) (sym e) (is_other other own t.0)
+among_apart own name (other ∷ names) h (inl e) = search (rules, is_other)
 among_apart own name (other ∷ names) h (inr among) =
     let t = both (not (bytes_eq other own)) (is_apart own names) h in
     among_apart own name names t.1 among
@@ -100,18 +98,7 @@ module _ {A B : Type 0} (own : List ℕ) (h : Holding A) (others : CaseCodecs B)
   other_is_back : (encoding : Encoding) (v : B) (cost : ℕ)
       → VariantBack others.cases others.names encoding v cost
       → VariantBack (case own h others.cases) (own ∷ others.names) encoding (Other v) cost
-  other_is_back encoding v cost b =
-      let e = both (is_short_ascii own) (is_apart own others.names) new in
-      let apart = among_apart own b.name others.names e.1 b.among in
-      record {
-        name = b.name;
-        is = b.is;
-        among = inr b.among;
-        back = elim b.back [
-          | inl u ↦ inl (u.0, inr (apart, u.1), u.2)
-          | inr k ↦ inr (k.0, k.1, other_content b.name k.0 v cost apart k.2)
-        ];
-      }
+  other_is_back encoding v cost b = search (rules, among_apart, inr, inl, other_content)
 
   own_is_name : IsName own
   own_is_name =

@@ -1,7 +1,7 @@
 -- Arrays of so many elements in one word: how their elements are written and read, and that they
 -- are read back.
 use Rattle.std.proofs.Common.{◌≡◌, ◌<◌, ◌^◌, ◌+◌, ℕ, List, [], ◌∷◌, length, max, IsTrue, refl, sym}
-use Rattle.std.proofs.Common.{subst, ltb, ltb-true, arith}
+use Rattle.std.proofs.Common.{subst, ltb, ltb-true, arith, rules}
 use Rattle.std.specs.List.{AllByRecursion}
 use Rattle.std.specs.declared.alloc.Global.{Global}
 use Rattle.cbor4ii_items.specs.Numbers.{shortest_head}
@@ -47,11 +47,7 @@ module _ {T V : Type 0} (c : Codec T) (others : ElementCodecs V) where
       → c.stands v.0 × others.stands v.1
       → IsReadBack (element_before c.promise others.elements).format.reads
       (one_then (c.encoding v.0) (parts (others.items v.1))) v (max (c.cost v.0) (others.cost v.1))
-  elements_back hold alloc v h =
-      key_value_back c.promise.format.reads others.elements.format.reads (c.encoding v.0)
-      (parts (others.items v.1)) v (c.cost v.0) (others.cost v.1)
-      (c.back (first_hold c.facts others.facts hold) alloc v.0 h.0)
-      (others.back (others_hold c.facts others.facts hold) alloc v.1 h.1)
+  elements_back hold alloc v h = search (rules, key_value_back, first_hold, alloc, others_hold)
 
   -- an element, and those after it
   abbrev pub with_element : ElementCodecs (T × V)
@@ -94,9 +90,7 @@ pub elements_are_back : {R V : Type 0} (values : R → V) (make : V → R)
     (made_from (λ (v : V) (r : R). r ≡ make v) (typed_elements p.elements)).format.reads
     (tuple_encoding (p.items (values r))) r (1 + p.cost (values r))
 elements_are_back {R = R} {V = V} values make whole p few hold alloc r h =
-    let v = values r in
-    made_back (typed_elements p.elements).format.reads (λ (v : V) (r : R). r ≡ make v)
-    (tuple_encoding (p.items v)) v r (1 + p.cost v) (whole r) (array_is_back p few hold alloc v h)
+    search (rules, made_back, array_is_back, alloc)
 
 -- a struct that is an array of these elements, which has these values of them
 abbrev pub elements_codec : {R V : Type 0} (values : R → V) (make : V → R)

@@ -1,13 +1,13 @@
 -- Structs in one word: how their fields are written and read, and that they are read back.
 use Rattle.std.proofs.Common.{◌≡◌, ◌≢◌, ◌<◌, ◌≤◌, ◌+◌, ℕ, List, [], ◌∷◌, length, max, Option}
 use Rattle.std.proofs.Common.{None, Some, Result, Ok, Bool, true, IsTrue, refl, sym, ap, subst, ltb}
-use Rattle.std.proofs.Common.{ltb-true, arith}
+use Rattle.std.proofs.Common.{ltb-true, arith, rules}
 use Rattle.std.specs.Prelude.{◌&&◌, not, bytes_eq}
 use Rattle.std.specs.List.{AllByRecursion}
 use Rattle.std.specs.declared.alloc.Global.{Global}
 use Rattle.std.proofs.lemmas.Slice.Eq.{bytes_eq-Decides}
 use Rattle.cbor4ii_items.specs.Laws.Containers.{both}
-use Rattle.cbor4ii_ser.specs.Item.{Encoding, encoded}
+use Rattle.cbor4ii_ser.specs.Item.{Encoding}
 use Rattle.cbor4ii_ser.specs.Listed.{keyed_pairs, keyed_encoding, before}
 use Rattle.cbor4ii_ser.specs.OneItem.{IsOneItem, IsOnePair, canonical}
 use Rattle.cbor4ii_ser.specs.Laws.OneItem.{struct_is_item, pair_is_entry}
@@ -101,26 +101,13 @@ module _ {T P V W : Type 0} (place : Place T P) (name : List ℕ) (c : Codec T)
       (named_field place.put name c.promise.format.reads others.shape.fields.named)
       (place.none, others.shape.fields.first) (place.put w.0 place.none, others.held w.1)
       ((name, c.encoding w.0) ∷ others.items w.1) (max (c.cost w.0) (others.cost w.1))
-  part_back hold alloc w h =
-      let e = both (others.shape.key.is_label name) (is_apart name others.labels) new in
-      field_back place name c.promise.format.reads others.shape.fields.named
-      others.shape.fields.first (others.held w.1) (others.items w.1) (others.cost w.1)
-      (c.encoding w.0)
-      w.0 (c.cost w.0) (others.back (others_hold c.facts others.facts hold) alloc w.1 h.1)
-      e.0 (others.others name e.1 w.1)
-      (c.back (first_hold c.facts others.facts hold) alloc w.0 h.0)
+  part_back hold alloc w h = search (rules, field_back, others_hold, alloc, first_hold)
 
   pub part_pairs : Hold (both_facts c.facts others.facts) → (w : T × W)
       → c.stands w.0 × others.stands w.1
       → AllByRecursion (IsOnePair canonical)
       (keyed_pairs others.shape.key.item ((name, c.encoding w.0) ∷ others.items w.1))
-  part_pairs hold w h =
-      let e = both (others.shape.key.is_label name) (is_apart name others.labels) new in
-      let key = others.shape.key in (
-        pair_is_entry canonical (encoded (key.item name)) (c.encoding w.0) (key.one name e.0)
-            (c.one (first_hold c.facts others.facts hold) w.0 h.0),
-        others.pairs (others_hold c.facts others.facts hold) w.1 h.1,
-      )
+  part_pairs hold w h = search (rules, pair_is_entry, first_hold, others_hold)
 
   -- a field of this name and of which this becomes, where a value that is there becomes itself
   abbrev pub with_field_by : (value : P → Result T (List ℕ))
@@ -209,9 +196,7 @@ module _ {T P V W : Type 0} (place : Place T P) (name : List ℕ) (c : Codec T)
       (before name c.encoding w.0 (others.items w.1))
   optional_others other h (None, w) =
       others.others other (both (not (bytes_eq name other)) (is_apart other others.labels) h).1 w
-  optional_others other h (Some v, w) =
-      let e = both (not (bytes_eq name other)) (is_apart other others.labels) h in
-      (is_other name other e.0, others.others other e.1 w)
+  optional_others other h (Some v, w) = search (rules, is_other)
 
   pub optional_back : Hold (both_facts c.facts others.facts) → (alloc : Global)
       (w : Option T × W)
@@ -221,15 +206,7 @@ module _ {T P V W : Type 0} (place : Place T P) (name : List ℕ) (c : Codec T)
       (place.none, others.shape.fields.first) (put_option place w.0, others.held w.1)
       (before name c.encoding w.0 (others.items w.1)) (max (held_cost c w.0) (others.cost w.1))
   optional_back hold alloc (None, w) h =
-      let e = both (others.shape.key.is_label name) (is_apart name others.labels) new in
-      subst (λ cost. FieldsBack (IsLabel others.shape.key)
-      (named_field place.put name c.promise.format.reads others.shape.fields.named)
-      (place.none, others.shape.fields.first) (place.none, others.held w) (others.items w) cost)
-      (sym (no_dearer (others.cost w)))
-      (no_field_back place name c.promise.format.reads others.shape.fields.named
-      others.shape.fields.first (others.held w) (others.items w) (others.cost w)
-      (others.back (others_hold c.facts others.facts hold) alloc w h.1)
-      (others.others name e.1 w))
+      search (rules, no_dearer, no_field_back, others_hold, alloc)
   optional_back hold alloc (Some v, w) h =
       part_back place name c others new hold alloc (v, w) h
 
@@ -289,16 +266,11 @@ module _ {V W : Type 0} (p : FieldCodecs V W) (few : length p.labels < 256) wher
   pub fields_are_back : Hold p.facts → (alloc : Global) (w : W) → p.stands w
       → IsReadBack (ReadsFields p.shape.key p.shape.fields.first p.shape.fields.named)
       (fields_item p w) (p.held w) (1 + p.cost w)
-  fields_are_back hold alloc w h =
-      struct_back p.shape.key p.shape.fields.named p.shape.fields.first (p.held w)
-      (p.items w) (p.cost w) (omega (arith, p.few w, few)) (p.back hold alloc w h)
+  fields_are_back hold alloc w h = search (rules, struct_back, alloc)
 
   pub fields_are_one : Hold p.facts → (w : W) → p.stands w
       → IsOneItem canonical (fields_item p w)
-  fields_are_one hold w h = struct_is_item canonical
-      (keyed_pairs p.shape.key.item (p.items w))
-      (omega (arith, pairs_count p.shape.key.item (p.items w), p.few w, few))
-      (p.pairs hold w h)
+  fields_are_one hold w h = search (rules, struct_is_item, pairs_count)
 
   pub values_are_back : Hold p.facts → (alloc : Global) (w : W) → p.stands w
       → IsReadBack (struct_from p.shape).format.reads (fields_item p w) w (1 + p.cost w)
@@ -325,10 +297,7 @@ pub struct_is_back : {R V W : Type 0} (values : R → W) (make : W → R)
     → IsReadBack (made_from (λ (w : W) (r : R). r ≡ make w) (struct_from p.shape)).format.reads
     (fields_item p (values r)) r (1 + p.cost (values r))
 struct_is_back {R = R} {W = W} values make whole p few hold alloc r h =
-    let w = values r in
-    made_back (struct_from p.shape).format.reads (λ (w : W) (r : R). r ≡ make w)
-    (fields_item p w) w r (1 + p.cost w) (whole r)
-    (values_are_back p few hold alloc w h)
+    search (rules, made_back, values_are_back, alloc)
 
 -- a struct that has these values of its fields, fewer than 256
 abbrev pub struct_codec : {R V W : Type 0} (values : R → W) (make : W → R)

@@ -238,9 +238,8 @@ keyed_pair_laws key same named laws =
 pub changed_same : {V : Type 0} (same : V → V → Type 0) (v w : V) (gs hs : List (V → V)) → same v w
     → SameElements (SameChange same) gs hs → same (after_changes v gs) (after_changes w hs)
 changed_same same v w [] [] s p = s
-changed_same same v w [] (h ∷ hs) s p = absurd p
-changed_same same v w (g ∷ gs) [] s p = absurd p
 changed_same same v w (g ∷ gs) (h ∷ hs) s p = changed_same same (g v) (h w) gs hs (p.0 v w s) p.1
+changed_same same v w _ _ s p = absurd p
 
 -- A struct that is made of the values may be exact by it.
 -- One input is read as a map of fields in one way, as values that mean the same.

@@ -23,10 +23,9 @@ came_last (Some v) = 1
 
 pub same_came_last : {T : Type 0} (alike : T → T → Type 0) (o p : Option T) → SameOption alike o p
     → came_last o ≡ came_last p
-same_came_last alike None None h = refl
 same_came_last alike None (Some w) h = absurd h
 same_came_last alike (Some v) None h = absurd h
-same_came_last alike (Some v) (Some w) h = refl
+same_came_last alike _ _ h = refl
 
 abbrev pub put_last : {T : Type 0} → T → Option T → Option T
 put_last v o = Some v
@@ -67,26 +66,16 @@ SameSingle alike Repeated Repeated = Unit {0}
 pub put_only_same : {T : Type 0} (alike : T → T → Type 0) (v w : T) (o p : Single T) → alike v w
     → SameSingle alike o p → SameSingle alike (put_only v o) (put_only w p)
 put_only_same alike v w Absent Absent h k = h
-put_only_same alike v w Absent (Present u) h k = absurd k
-put_only_same alike v w Absent Repeated h k = absurd k
-put_only_same alike v w (Present t) Absent h k = absurd k
 put_only_same alike v w (Present t) (Present u) h k = tt
-put_only_same alike v w (Present t) Repeated h k = absurd k
-put_only_same alike v w Repeated Absent h k = absurd k
-put_only_same alike v w Repeated (Present u) h k = absurd k
 put_only_same alike v w Repeated Repeated h k = tt
+put_only_same alike v w _ _ h k = absurd k
 
 pub same_came_only : {T : Type 0} (alike : T → T → Type 0) (o p : Single T)
     → SameSingle alike o p → came_only o ≡ came_only p
 same_came_only alike Absent Absent h = refl
-same_came_only alike Absent (Present w) h = absurd h
-same_came_only alike Absent Repeated h = absurd h
-same_came_only alike (Present v) Absent h = absurd h
 same_came_only alike (Present v) (Present w) h = refl
-same_came_only alike (Present v) Repeated h = absurd h
-same_came_only alike Repeated Absent h = absurd h
-same_came_only alike Repeated (Present w) h = absurd h
 same_came_only alike Repeated Repeated h = refl
+same_came_only alike _ _ h = absurd h
 
 -- a place that says whether one value came, or several
 abbrev pub only_place : {T : Type 0} → Place T (Single T)

@@ -114,9 +114,8 @@ SameFate (Err words) (Err others) = words ≡ others
 pub words_fate : {T : Type 0} (words : List ℕ) (o p : Option T) → came_last o ≡ came_last p
     → SameFate (or_words words o) (or_words words p)
 words_fate words None None e = refl
-words_fate words None (Some w) e = cc
-words_fate words (Some v) None e = cc
 words_fate words (Some v) (Some w) e = tt
+words_fate words _ _ e = cc
 
 pub value_fate : {T : Type 0} (other : T) (o p : Option T) → came_last o ≡ came_last p
     → SameFate (or_value other o) (or_value other p)
@@ -130,24 +129,18 @@ pub once_fate : {T A : Type 0} (words : List ℕ) (value : Option T → Result A
     → (o p : Single T) → came_only o ≡ came_only p
     → SameFate (once_or_words words value o) (once_or_words words value p)
 once_fate words value one Absent Absent e = one None None refl
-once_fate words value one Absent (Present w) e = cc
-once_fate words value one Absent Repeated e = cc
-once_fate words value one (Present v) Absent e = cc
 once_fate words value one (Present v) (Present w) e = one (Some v) (Some w) refl
-once_fate words value one (Present v) Repeated e = cc
-once_fate words value one Repeated Absent e = cc
-once_fate words value one Repeated (Present w) e = cc
 once_fate words value one Repeated Repeated e = refl
+once_fate words value one _ _ e = cc
 
 pub paired_fate : {T W : Type 0} (a b : Result T (List ℕ)) (c d : Result W (List ℕ))
     → SameFate a b → SameFate c d → SameFate (both_or_words a c) (both_or_words b d)
 paired_fate (Err v) (Err w) c d s t = s
-paired_fate (Err v) (Ok w) c d s t = absurd s
-paired_fate (Ok v) (Err w) c d s t = absurd s
 paired_fate (Ok v) (Ok w) (Err c) (Err d) s t = t
 paired_fate (Ok v) (Ok w) (Err c) (Ok d) s t = absurd t
 paired_fate (Ok v) (Ok w) (Ok c) (Err d) s t = absurd t
 paired_fate (Ok v) (Ok w) (Ok c) (Ok d) s t = tt
+paired_fate _ _ c d s t = absurd s
 
 pub pair_fate : {T P A V W : Type 0} (place : Place T P) (p : Promise T)
     (others : List (Bor (List ℕ)) → Fields V) (value : P → Result A (List ℕ))

@@ -1,7 +1,7 @@
 //! The whole work, over the input's bytes.
 ghost use Rattle.std.specs.Prelude.{◌≡◌, IsOk, IsUtf8};
 
-use crate::fault::Fault;
+use crate::fault::{Fault, OrFault};
 use crate::input::Input;
 use crate::parse::items;
 use crate::print::described::put_described;
@@ -16,7 +16,7 @@ use std::str;
 ///
 /// - `NotText` where the bytes are not UTF-8
 /// - each other one of `describe`
-pub fn describe_bytes(alloc: Global, bytes: &[u8]) -> Result<String, Fault>
+pub fn describe_bytes(alloc: Global, bytes: &[u8]) -> OrFault<String>
     ensures text { IsOk result → IsUtf8 bytes.now }
     ensures not_text { ¬ IsUtf8 bytes.now → result ≡ Err Fault.NotText }
 {
@@ -32,7 +32,7 @@ pub fn describe_bytes(alloc: Global, bytes: &[u8]) -> Result<String, Fault>
 ///
 /// - `Refused` of a line and why, where the text holds a form that is not written
 /// - `Memory` where no memory is found
-pub fn describe(alloc: Global, text: &str) -> Result<String, Fault> {
+pub fn describe(alloc: Global, text: &str) -> OrFault<String> {
     let mut input = Input::new(alloc, cut(alloc, text)?)?;
     let types = items(alloc, &mut input)?;
     let mut out = String::new(alloc);

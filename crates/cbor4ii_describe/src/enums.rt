@@ -2,9 +2,9 @@
 ghost use Rattle.std.specs.Prelude.{◌<◌, ◌≤◌, OnOk, IfOk, vec_len};
 ghost use Rattle.cbor4ii_describe.specs.Input.{Shorter, NoLonger};
 
-use crate::fault::{Fault, Why, refused};
+use crate::fault::{OrFault, Why, refused};
 use crate::input::Input;
-use crate::options::{head, no_options};
+use crate::options::{Options, head};
 use crate::parse::{fields, or_name};
 use crate::shape::{Content, Field, Key, Presence, Variant};
 use crate::types::its_type;
@@ -20,7 +20,7 @@ pub const MOST_ITEMS: usize = 3;
 pub const MOST_VARIANT_FIELDS: usize = 4;
 
 /// Takes the variants up to the bracket that closes them.
-pub fn variants(alloc: Global, input: &mut Input) -> Result<Vec<Variant>, Fault>
+pub fn variants(alloc: Global, input: &mut Input) -> OrFault<Vec<Variant>>
     ensures takes { OnOk result (Shorter input.old input.new) }
     ensures count { IfOk result (λ variants. (0 < vec_len variants) × (vec_len variants ≤ 12)) }
 {
@@ -46,10 +46,10 @@ fn is_taken(variants: &[Variant], label: &str) -> bool {
         .any(|variant| variant.label.as_str() == label)
 }
 
-fn variant(alloc: Global, input: &mut Input) -> Result<Variant, Fault>
+fn variant(alloc: Global, input: &mut Input) -> OrFault<Variant>
     ensures { OnOk result (Shorter input.old input.new) }
 {
-    let mut options = no_options();
+    let mut options = Options::default();
     let head = head(alloc, input, &mut options)?;
     let name = input.name()?;
     let line = input.line();
@@ -68,7 +68,7 @@ fn variant(alloc: Global, input: &mut Input) -> Result<Variant, Fault>
 }
 
 // Takes what a variant of this name holds.
-fn content(alloc: Global, input: &mut Input, name: &str) -> Result<Content, Fault>
+fn content(alloc: Global, input: &mut Input, name: &str) -> OrFault<Content>
     ensures { OnOk result (NoLonger input.old input.new) }
 {
     if input.took("(") {
@@ -92,7 +92,7 @@ fn may_stand(field: &Field) -> bool {
     matches!(field.key, Key::Name(_)) && !matches!(field.presence, Presence::LeftOut)
 }
 
-fn items(alloc: Global, input: &mut Input) -> Result<Vec<String>, Fault>
+fn items(alloc: Global, input: &mut Input) -> OrFault<Vec<String>>
     ensures { OnOk result (Shorter input.old input.new) }
 {
     let mut items = Vec::new(alloc);
@@ -109,29 +109,20 @@ fn items(alloc: Global, input: &mut Input) -> Result<Vec<String>, Fault>
     Ok(items)
 }
 
-// Whether a type is a number, a bool or a char, which are copied.
+// The numbers, bool and char, which are copied.
+const NUMBERS: [&str; 12] = [
+    "u8", "u16", "u32", "u64", "u128", "i8", "i16", "i32", "i64", "i128", "bool", "char",
+];
+
 fn is_number(its_type: &str) -> bool {
-    matches!(
-        its_type,
-        "u8" | "u16"
-            | "u32"
-            | "u64"
-            | "u128"
-            | "i8"
-            | "i16"
-            | "i32"
-            | "i64"
-            | "i128"
-            | "bool"
-            | "char"
-    )
+    NUMBERS.iter().any(|number| *number == its_type)
 }
 
 // Takes the type of an item, above which nothing stands.
-fn item(alloc: Global, input: &mut Input) -> Result<String, Fault>
+fn item(alloc: Global, input: &mut Input) -> OrFault<String>
     ensures { OnOk result (Shorter input.old input.new) }
 {
-    let mut options = no_options();
+    let mut options = Options::default();
     let head = head(alloc, input, &mut options)?;
     if !options.are_none() || !head.lines.is_empty() {
         return refused(input.line(), Why::Attribute);

@@ -2,7 +2,7 @@
 ghost use Rattle.std.specs.Prelude.{◌≡◌, ◌+◌, ◌<◌, ◌↔◌, OnOk, OnSome, IfNone, IsSome, IsTrue};
 ghost use Rattle.cbor4ii_describe.specs.Input.{left_count, Shorter, NoLonger};
 
-use crate::fault::{Fault, Why, refused};
+use crate::fault::{Fault, OrFault, Why, refused};
 use crate::tokens::{Kind, Token};
 use std::alloc::Global;
 
@@ -24,7 +24,7 @@ fn counts(token: &Token) -> bool {
 
 impl Input {
     /// The input of these tokens.
-    pub fn new(alloc: Global, tokens: Vec<Token>) -> Result<Input, Fault> {
+    pub fn new(alloc: Global, tokens: Vec<Token>) -> OrFault<Input> {
         let mut left = Vec::new(alloc);
         for token in tokens.into_iter().rev() {
             if counts(&token) {
@@ -73,7 +73,7 @@ impl Input {
     }
 
     /// Takes this token.
-    pub fn want(&mut self, text: &str) -> Result<(), Fault>
+    pub fn want(&mut self, text: &str) -> OrFault<()>
         ensures { OnOk result (Shorter self.old self.new) }
     {
         match self.took(text) {
@@ -83,7 +83,7 @@ impl Input {
     }
 
     /// Takes a token of this kind.
-    pub fn want_kind(&mut self, kind: Kind, why: Why) -> Result<String, Fault>
+    pub fn want_kind(&mut self, kind: Kind, why: Why) -> OrFault<String>
         ensures { OnOk result (Shorter self.old self.new) }
     {
         match self.take() {
@@ -93,14 +93,14 @@ impl Input {
     }
 
     /// Takes a word.
-    pub fn word(&mut self) -> Result<String, Fault>
+    pub fn word(&mut self) -> OrFault<String>
         ensures { OnOk result (Shorter self.old self.new) }
     {
         self.want_kind(Kind::Word, Why::NoName)
     }
 
     /// Takes a word that is a name: it begins with a letter or `_`.
-    pub fn name(&mut self) -> Result<String, Fault>
+    pub fn name(&mut self) -> OrFault<String>
         ensures { OnOk result (Shorter self.old self.new) }
     {
         let name = self.word()?;
@@ -112,7 +112,7 @@ impl Input {
 
     /// Takes a text in quotes: what stands between them. It is plain ASCII with no backslash, of
     /// at most 255 bytes.
-    pub fn text(&mut self, alloc: Global) -> Result<String, Fault>
+    pub fn text(&mut self, alloc: Global) -> OrFault<String>
         ensures { OnOk result (Shorter self.old self.new) }
     {
         let quoted = self.want_kind(Kind::Text, Why::Unexpected)?;
@@ -123,7 +123,7 @@ impl Input {
     }
 
     /// Takes an integer that is not negative, of 64 bits.
-    pub fn integer(&mut self) -> Result<u64, Fault>
+    pub fn integer(&mut self) -> OrFault<u64>
         ensures { OnOk result (Shorter self.old self.new) }
     {
         let digits = self.want_kind(Kind::Word, Why::Integer)?;
@@ -134,7 +134,7 @@ impl Input {
     }
 
     /// Takes the comma behind a part, which need not stand before this bracket.
-    pub fn end_part(&mut self, close: &str) -> Result<(), Fault>
+    pub fn end_part(&mut self, close: &str) -> OrFault<()>
         ensures { OnOk result (NoLonger self.old self.new) }
     {
         if self.is_next(close) {

@@ -2,7 +2,7 @@
 ghost use Rattle.std.specs.Prelude.{◌≡◌, ◌<◌, ◌≤◌, ◌^◌, OnOk, None, Some, false, true};
 ghost use Rattle.cbor4ii_describe.specs.Input.{Shorter, NoLonger};
 
-use crate::fault::{Fault, Why, refused};
+use crate::fault::{OrFault, Why, refused};
 use crate::input::Input;
 use crate::shape::{Head, Key};
 use crate::types::rest_of_attribute;
@@ -11,8 +11,8 @@ use std::alloc::Global;
 // How far the least integer of 64 bits with a sign is below zero.
 const LEAST: u64 = 1 << 63;
 
-/// What the attributes above an item say.
-#[derive(Drop)]
+/// What the attributes above an item say. By default they say nothing.
+#[derive(Default, Drop)]
 pub struct Options {
     /// The name that is written: `rename`.
     pub rename: Option<String>,
@@ -38,23 +38,6 @@ pub struct Options {
     pub derives: bool,
 }
 
-/// What no attribute says.
-pub fn no_options() -> Options {
-    Options {
-        rename: None,
-        default: None,
-        left_out: false,
-        once: false,
-        last: false,
-        words: None,
-        key: None,
-        tag: None,
-        array: false,
-        module: None,
-        derives: false,
-    }
-}
-
 impl Options {
     /// Whether they say nothing.
     pub fn are_none(&self) -> bool {
@@ -78,7 +61,7 @@ impl Options {
 }
 
 /// Takes what stands above an item, and its visibility.
-pub fn head(alloc: Global, input: &mut Input, options: &mut Options) -> Result<Head, Fault>
+pub fn head(alloc: Global, input: &mut Input, options: &mut Options) -> OrFault<Head>
     ensures { OnOk result (NoLonger input.old input.new) }
 {
     let mut lines = Vec::new(alloc);
@@ -99,7 +82,7 @@ fn is_above(input: &Input) -> bool {
     }
 }
 
-fn line_above(alloc: Global, input: &mut Input, options: &mut Options) -> Result<String, Fault>
+fn line_above(alloc: Global, input: &mut Input, options: &mut Options) -> OrFault<String>
     ensures { OnOk result (Shorter input.old input.new) }
 {
     if input.took("#") {
@@ -112,14 +95,13 @@ fn line_above(alloc: Global, input: &mut Input, options: &mut Options) -> Result
     }
 }
 
-fn attribute(alloc: Global, input: &mut Input, options: &mut Options) -> Result<String, Fault>
+fn attribute(alloc: Global, input: &mut Input, options: &mut Options) -> OrFault<String>
     ensures { OnOk result (Shorter input.old input.new) }
 {
     input.want("[")?;
     let name = input.name()?;
     match name.as_str() {
-        "serde" => serde_options(alloc, input, options),
-        "describe" => own_options(alloc, input, options),
+        "serde" | "describe" => our_options(alloc, input, name.as_str(), options),
         "derive" => {
             options.derives = true;
             derive(alloc, input)
@@ -128,19 +110,28 @@ fn attribute(alloc: Global, input: &mut Input, options: &mut Options) -> Result<
     }
 }
 
-fn serde_options(alloc: Global, input: &mut Input, options: &mut Options) -> Result<String, Fault>
+// Takes the options of an attribute of this name, which is not kept.
+fn our_options(
+    alloc: Global,
+    input: &mut Input,
+    name: &str,
+    options: &mut Options,
+) -> OrFault<String>
     ensures { OnOk result (Shorter input.old input.new) }
 {
     input.want("(")?;
     while !input.took(")") {
-        serde_option(alloc, input, options)?;
+        match name {
+            "serde" => serde_option(alloc, input, options)?,
+            _ => own_option(alloc, input, options)?,
+        }
         input.end_part(")")?;
     }
     input.want("]")?;
     Ok(String::new(alloc))
 }
 
-fn serde_option(alloc: Global, input: &mut Input, options: &mut Options) -> Result<(), Fault>
+fn serde_option(alloc: Global, input: &mut Input, options: &mut Options) -> OrFault<()>
     ensures { OnOk result (Shorter input.old input.new) }
 {
     let name = input.name()?;
@@ -159,19 +150,7 @@ fn serde_option(alloc: Global, input: &mut Input, options: &mut Options) -> Resu
     Ok(())
 }
 
-fn own_options(alloc: Global, input: &mut Input, options: &mut Options) -> Result<String, Fault>
-    ensures { OnOk result (Shorter input.old input.new) }
-{
-    input.want("(")?;
-    while !input.took(")") {
-        own_option(alloc, input, options)?;
-        input.end_part(")")?;
-    }
-    input.want("]")?;
-    Ok(String::new(alloc))
-}
-
-fn own_option(alloc: Global, input: &mut Input, options: &mut Options) -> Result<(), Fault>
+fn own_option(alloc: Global, input: &mut Input, options: &mut Options) -> OrFault<()>
     ensures { OnOk result (Shorter input.old input.new) }
 {
     let name = input.name()?;
@@ -191,7 +170,7 @@ fn own_option(alloc: Global, input: &mut Input, options: &mut Options) -> Result
     Ok(())
 }
 
-fn key(input: &mut Input) -> Result<Key, Fault>
+fn key(input: &mut Input) -> OrFault<Key>
     ensures { OnOk result (Shorter input.old input.new) }
 {
     input.want("=")?;
@@ -217,7 +196,7 @@ fn key_of(is_negative: bool, size: u64) -> Option<Key>
     }
 }
 
-fn value(alloc: Global, input: &mut Input) -> Result<String, Fault>
+fn value(alloc: Global, input: &mut Input) -> OrFault<String>
     ensures { OnOk result (Shorter input.old input.new) }
 {
     input.want("=")?;
@@ -225,7 +204,7 @@ fn value(alloc: Global, input: &mut Input) -> Result<String, Fault>
 }
 
 // The attribute with `Drop`, where it has no `Copy`, and without what serde derives.
-fn derive(alloc: Global, input: &mut Input) -> Result<String, Fault>
+fn derive(alloc: Global, input: &mut Input) -> OrFault<String>
     ensures { OnOk result (Shorter input.old input.new) }
 {
     let mut line = String::from_str(alloc, "#[derive(")?;
@@ -255,7 +234,7 @@ fn is_of_serde(path: &str) -> bool {
 }
 
 // Takes a path: names with colons between them.
-fn path(alloc: Global, input: &mut Input) -> Result<String, Fault>
+fn path(alloc: Global, input: &mut Input) -> OrFault<String>
     ensures { OnOk result (Shorter input.old input.new) }
 {
     let mut path = input.name()?;
@@ -269,7 +248,7 @@ fn path(alloc: Global, input: &mut Input) -> Result<String, Fault>
 }
 
 // Takes what says who sees an item: `pub` or the like with a space, or nothing.
-fn visibility(alloc: Global, input: &mut Input) -> Result<String, Fault>
+fn visibility(alloc: Global, input: &mut Input) -> OrFault<String>
     ensures { OnOk result (NoLonger input.old input.new) }
 {
     if !input.took("pub") {

@@ -3,9 +3,9 @@ ghost use Rattle.std.specs.Prelude.{◌≡◌, ◌<◌, ◌≤◌, OnOk, IfOk, I
 ghost use Rattle.cbor4ii_describe.specs.Input.{left_count, Shorter, NoLonger};
 
 use crate::enums::variants;
-use crate::fault::{Fault, Why, refused};
+use crate::fault::{OrFault, Why, refused};
 use crate::input::Input;
-use crate::options::{Options, head, no_options};
+use crate::options::{Options, head};
 use crate::presence::presence;
 use crate::shape::{Described, Field, Form, Head, Key, MOST_CALLED, Parameter, Shape, leaves_out};
 use crate::types::its_type;
@@ -15,7 +15,7 @@ use std::alloc::Global;
 pub const MOST_FIELDS: usize = 12;
 
 /// Takes all that is left: one type after another.
-pub fn items(alloc: Global, input: &mut Input) -> Result<Vec<Described>, Fault>
+pub fn items(alloc: Global, input: &mut Input) -> OrFault<Vec<Described>>
     ensures { OnOk result (left_count input.new ≡ 0) }
 {
     let mut items = Vec::new(alloc);
@@ -28,10 +28,10 @@ pub fn items(alloc: Global, input: &mut Input) -> Result<Vec<Described>, Fault>
     Ok(items)
 }
 
-fn item(alloc: Global, input: &mut Input) -> Result<Described, Fault>
+fn item(alloc: Global, input: &mut Input) -> OrFault<Described>
     ensures { OnOk result (Shorter input.old input.new) }
 {
-    let mut options = no_options();
+    let mut options = Options::default();
     let mut head = head(alloc, input, &mut options)?;
     let is_enum = begin(input)?;
     let name = input.name()?;
@@ -81,7 +81,7 @@ fn clash_of_parameter(parameter: &Parameter, shape: &Shape) -> Option<Why> {
 }
 
 // Takes the word that begins a type, and says whether it is an enum.
-fn begin(input: &mut Input) -> Result<bool, Fault>
+fn begin(input: &mut Input) -> OrFault<bool>
     ensures { OnOk result (Shorter input.old input.new) }
 {
     if input.took("struct") {
@@ -94,7 +94,7 @@ fn begin(input: &mut Input) -> Result<bool, Fault>
 }
 
 // Takes the parameter, where there is one. Types named S and W stand in the impls already.
-fn parameter(input: &mut Input) -> Result<Parameter, Fault>
+fn parameter(input: &mut Input) -> OrFault<Parameter>
     ensures { OnOk result (NoLonger input.old input.new) }
 {
     if !input.took("<") {
@@ -111,12 +111,7 @@ fn parameter(input: &mut Input) -> Result<Parameter, Fault>
     }
 }
 
-fn enum_shape(
-    alloc: Global,
-    input: &mut Input,
-    name: &str,
-    options: &Options,
-) -> Result<Shape, Fault>
+fn enum_shape(alloc: Global, input: &mut Input, name: &str, options: &Options) -> OrFault<Shape>
     ensures { OnOk result (Shorter input.old input.new) }
 {
     if options.array || options.tag.is_some() {
@@ -128,12 +123,7 @@ fn enum_shape(
     Ok(Shape::Variants { variants, words })
 }
 
-fn struct_shape(
-    alloc: Global,
-    input: &mut Input,
-    name: &str,
-    options: &Options,
-) -> Result<Shape, Fault>
+fn struct_shape(alloc: Global, input: &mut Input, name: &str, options: &Options) -> OrFault<Shape>
     ensures { OnOk result (Shorter input.old input.new) }
 {
     if options.module.is_some() {
@@ -155,12 +145,7 @@ fn struct_shape(
     })
 }
 
-fn fields_shape(
-    alloc: Global,
-    input: &mut Input,
-    name: &str,
-    options: &Options,
-) -> Result<Shape, Fault>
+fn fields_shape(alloc: Global, input: &mut Input, name: &str, options: &Options) -> OrFault<Shape>
     ensures { OnOk result (Shorter input.old input.new) }
 {
     let line = input.line();
@@ -181,10 +166,10 @@ fn form(fields: &[Field], is_array: bool) -> Form {
     }
 }
 
-fn unnamed(alloc: Global, input: &mut Input) -> Result<(Head, String), Fault>
+fn unnamed(alloc: Global, input: &mut Input) -> OrFault<(Head, String)>
     ensures { OnOk result (Shorter input.old input.new) }
 {
-    let mut options = no_options();
+    let mut options = Options::default();
     let head = head(alloc, input, &mut options)?;
     if !options.are_none() {
         return refused(input.line(), Why::Attribute);
@@ -198,12 +183,7 @@ fn unnamed(alloc: Global, input: &mut Input) -> Result<(Head, String), Fault>
 }
 
 /// Takes the fields up to the bracket that closes them, of a struct or a variant of this name.
-pub fn fields(
-    alloc: Global,
-    input: &mut Input,
-    owner: &str,
-    is_array: bool,
-) -> Result<Vec<Field>, Fault>
+pub fn fields(alloc: Global, input: &mut Input, owner: &str, is_array: bool) -> OrFault<Vec<Field>>
     ensures takes { OnOk result (Shorter input.old input.new) }
     ensures count { IfOk result (λ fields. (0 < vec_len fields) × (vec_len fields ≤ 12)) }
 {
@@ -247,10 +227,10 @@ fn clash_of(one: &Key, other: &Key) -> Option<Why>
     }
 }
 
-fn field(alloc: Global, input: &mut Input, owner: &str, is_array: bool) -> Result<Field, Fault>
+fn field(alloc: Global, input: &mut Input, owner: &str, is_array: bool) -> OrFault<Field>
     ensures { OnOk result (Shorter input.old input.new) }
 {
-    let mut options = no_options();
+    let mut options = Options::default();
     let head = head(alloc, input, &mut options)?;
     let name = input.name()?;
     let line = input.line();
@@ -295,7 +275,7 @@ fn key_or_name(
     key: Option<Key>,
     rename: Option<String>,
     name: &str,
-) -> Result<Key, Fault> {
+) -> OrFault<Key> {
     match (key, rename) {
         (Some(_), Some(_)) => refused(line, Why::Attribute),
         (Some(key), None) => Ok(key),
@@ -304,7 +284,7 @@ fn key_or_name(
 }
 
 /// The name that is written, where none is given the item's own.
-pub fn or_name(alloc: Global, rename: Option<String>, name: &str) -> Result<String, Fault> {
+pub fn or_name(alloc: Global, rename: Option<String>, name: &str) -> OrFault<String> {
     match rename {
         Some(name) => Ok(name),
         None => Ok(String::from_str(alloc, name)?),
@@ -313,13 +293,7 @@ pub fn or_name(alloc: Global, rename: Option<String>, name: &str) -> Result<Stri
 
 // What is said of a field that is missing: `a point has no x`. Of one that may come once it is said
 // where it comes twice, too: `a point has one x`. A field under an integer has its own name.
-fn words_of(
-    alloc: Global,
-    owner: &str,
-    key: &Key,
-    name: &str,
-    once: bool,
-) -> Result<String, Fault> {
+fn words_of(alloc: Global, owner: &str, key: &Key, name: &str, once: bool) -> OrFault<String> {
     let called = match key {
         Key::Name(key) => key.as_str(),
         _ => name,
@@ -334,7 +308,7 @@ fn words_of(
 }
 
 // A type's name as words: `a point` of `APoint`.
-fn in_words(alloc: Global, name: &str) -> Result<String, Fault> {
+fn in_words(alloc: Global, name: &str) -> OrFault<String> {
     let mut words = String::new(alloc);
     for c in name.chars() {
         if c.is_ascii_uppercase() && !words.is_empty() {

@@ -1,5 +1,5 @@
 //! What a field is that is missing.
-use crate::fault::{Fault, Why, refused};
+use crate::fault::{OrFault, Why, refused};
 use crate::options::Options;
 use crate::shape::Presence;
 use crate::types::in_option;
@@ -27,12 +27,7 @@ fn sort_of(its_type: &str) -> Sort {
 }
 
 /// What a field of this type and these options is where it is missing.
-pub fn presence(
-    alloc: Global,
-    line: u32,
-    options: &Options,
-    its_type: &str,
-) -> Result<Presence, Fault> {
+pub fn presence(alloc: Global, line: u32, options: &Options, its_type: &str) -> OrFault<Presence> {
     let sort = sort_of(its_type);
     match &options.default {
         _ if options.left_out => left_out(line, options, sort),
@@ -43,7 +38,7 @@ pub fn presence(
 }
 
 // That none is not written, for a field that may be none and has no other default.
-fn left_out(line: u32, options: &Options, sort: Sort) -> Result<Presence, Fault> {
+fn left_out(line: u32, options: &Options, sort: Sort) -> OrFault<Presence> {
     match &options.default {
         Some(code) if !code.is_empty() => refused(line, Why::DefaultValue),
         _ if sort != Sort::Optional => refused(line, Why::LeftOut),
@@ -51,7 +46,7 @@ fn left_out(line: u32, options: &Options, sort: Sort) -> Result<Presence, Fault>
     }
 }
 
-fn or_default(alloc: Global, line: u32, code: &str, sort: Sort) -> Result<Presence, Fault> {
+fn or_default(alloc: Global, line: u32, code: &str, sort: Sort) -> OrFault<Presence> {
     let text = match (sort, code) {
         (Sort::Optional, "") => "None",
         (Sort::Bool, "") => "false",

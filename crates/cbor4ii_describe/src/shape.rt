@@ -3,7 +3,6 @@
 /// What its parameters are.
 #[derive(Drop)]
 pub enum Parameter {
-    /// None.
     Nothing,
     /// A lifetime, with its quote.
     Lifetime(String),
@@ -14,7 +13,6 @@ pub enum Parameter {
 /// What a field is written under.
 #[derive(Drop)]
 pub enum Key {
-    /// A name.
     Name(String),
     /// An integer that is not negative.
     Positive(u64),
@@ -49,9 +47,7 @@ pub fn leaves_out(fields: &[Field]) -> bool {
 pub struct Field {
     /// What stands above it, and before its name.
     pub head: Head,
-    /// Its name.
     pub name: String,
-    /// Its type.
     pub its_type: String,
     /// What it is written under.
     pub key: Key,
@@ -88,14 +84,12 @@ pub enum Form {
     Named,
     /// A map, under integers.
     Keyed,
-    /// An array.
     Array,
 }
 
 /// What a type holds.
 #[derive(Drop)]
 pub enum Shape {
-    /// Fields with names.
     Fields {
         form: Form,
         fields: Vec<Field>,
@@ -118,11 +112,9 @@ pub enum Shape {
 pub struct Variant {
     /// What stands above it.
     pub lines: Vec<String>,
-    /// Its name.
     pub name: String,
     /// The name that is written.
     pub label: String,
-    /// What it holds.
     pub holds: Content,
     /// The line that its name stands on.
     pub line: u32,
@@ -131,11 +123,9 @@ pub struct Variant {
 /// What a variant holds.
 #[derive(Drop)]
 pub enum Content {
-    /// Nothing.
     Nothing,
     /// Values of these types, without names.
     Items(Vec<String>),
-    /// Fields with names.
     Fields(Vec<Field>),
 }
 
@@ -144,15 +134,12 @@ pub enum Content {
 pub struct Described {
     /// What stands above it, and before its name.
     pub head: Head,
-    /// Its name.
     pub name: String,
     /// The name that calls are told.
     pub label: String,
-    /// Its parameter.
     pub parameter: Parameter,
     /// The path of the module that it stands in, of an enum.
     pub module: Option<String>,
-    /// What it holds.
     pub shape: Shape,
     /// The line that its name stands on.
     pub line: u32,

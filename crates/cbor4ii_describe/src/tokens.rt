@@ -2,14 +2,13 @@
 ghost use Rattle.std.specs.Prelude.{◌≡◌, ◌++◌, OnOk, IfOk, encode_utf8};
 ghost use Rattle.cbor4ii_describe.specs.Tokens.{taken_text_of, tokens_bytes};
 
-use crate::fault::Fault;
-use std::alloc::{AllocError, Global};
+use crate::fault::OrFault;
+use std::alloc::Global;
 use std::mem;
 
 /// What a token is.
 #[derive(Clone, Copy, Debug, PartialEq, Eq)]
 pub enum Kind {
-    /// White space.
     Space,
     /// A word, a number or a lifetime.
     Word,
@@ -30,9 +29,7 @@ pub enum Kind {
 /// A part of the input.
 #[derive(Drop)]
 pub struct Token {
-    /// What it is.
     pub kind: Kind,
-    /// The part itself.
     pub text: String,
     /// The line that it begins on, counted from 1.
     pub line: u32,
@@ -72,7 +69,7 @@ struct Cutting {
     line: u32,
 }
 
-fn take(alloc: Global, cut: &mut Cutting, c: char) -> Result<(), Fault>
+fn take(alloc: Global, cut: &mut Cutting, c: char) -> OrFault<()>
     ensures { OnOk result (taken_text_of cut.new ≡ taken_text_of cut.old ++ encode_utf8 c) }
 {
     match joined(cut.now.kind, c) {
@@ -100,7 +97,7 @@ fn take(alloc: Global, cut: &mut Cutting, c: char) -> Result<(), Fault>
 
 /// The tokens of a text, white space and comments among them, behind an empty one. Their texts
 /// behind one another are the text.
-pub fn cut(alloc: Global, text: &str) -> Result<Vec<Token>, Fault>
+pub fn cut(alloc: Global, text: &str) -> OrFault<Vec<Token>>
     ensures { IfOk result (λ tokens. tokens_bytes tokens.items ≡ text.now) }
 {
     let mut cut = Cutting {

@@ -3,12 +3,13 @@ ghost use Rattle.std.specs.Prelude.{◌≡◌, ◌++◌, OnOk, IfSome, codes};
 ghost use Rattle.cbor4ii_describe.specs.Input.{Shorter};
 ghost use Rattle.cbor4ii_describe.specs.Text.{AppendsToken};
 
-use crate::fault::{Fault, Why};
+use crate::fault::{OrFault, Why};
 use crate::input::Input;
-use std::alloc::{AllocError, Global};
+use crate::print::layout::Made;
+use std::alloc::Global;
 
 /// Takes a type, up to the sign behind it: its text, on one line.
-pub fn its_type(alloc: Global, input: &mut Input) -> Result<String, Fault>
+pub fn its_type(alloc: Global, input: &mut Input) -> OrFault<String>
     ensures { OnOk result (Shorter input.old input.new) }
 {
     if ends(input, 0) {
@@ -27,7 +28,7 @@ pub fn its_type(alloc: Global, input: &mut Input) -> Result<String, Fault>
 }
 
 /// Takes the rest of an attribute of this name: the attribute, on one line.
-pub fn rest_of_attribute(alloc: Global, input: &mut Input, name: &str) -> Result<String, Fault>
+pub fn rest_of_attribute(alloc: Global, input: &mut Input, name: &str) -> OrFault<String>
     ensures { OnOk result (Shorter input.old input.new) }
 {
     let mut text = format!(in alloc; "#[{name}")?;
@@ -44,7 +45,7 @@ pub fn rest_of_attribute(alloc: Global, input: &mut Input, name: &str) -> Result
     Ok(text)
 }
 
-fn take_or(input: &mut Input) -> Result<String, Fault>
+fn take_or(input: &mut Input) -> OrFault<String>
     ensures { OnOk result (Shorter input.old input.new) }
 {
     match input.take() {
@@ -71,7 +72,7 @@ fn depth_behind(depth: u32, token: &str) -> u32 {
 }
 
 // Appends a token behind this one, and behind a space where one belongs there.
-fn push_token(text: &mut String, last: &str, token: &str) -> Result<(), AllocError>
+fn push_token(text: &mut String, last: &str, token: &str) -> Made<()>
     ensures { OnOk result (AppendsToken text.old text.new token.now) }
 {
     if is_apart(last, token) {

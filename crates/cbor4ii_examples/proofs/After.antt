@@ -1,6 +1,6 @@
 -- One decoding call after another.
 use Rattle.std.proofs.Common.{◌≡◌, ℕ, ◌+◌, inl, inr, List, drop, Option, Some, None}
-use Rattle.std.proofs.Common.{refl, sym, ap, ◌∙◌, subst, max, IfSome}
+use Rattle.std.proofs.Common.{refl, sym, ap, ◌∙◌, subst, max, IfSome, rules}
 use Rattle.cbor4ii_rw.specs.View.{View}
 use Rattle.cbor4ii_rw.specs.declared.error.DecodeError.{DecodeError}
 use Rattle.cbor4ii_items.specs.InputError.{InputError, input_error_of}
@@ -11,7 +11,7 @@ use Rattle.cbor4ii_items.specs.Decoding.{Rejects}
 use Rattle.cbor4ii_items.specs.Laws.Prefixes.{drop_more}
 use Rattle.cbor4ii_items.specs.Laws.Answering.{if_some, complete_as}
 use Rattle.cbor4ii_items.specs.Laws.SequenceParts.{fits_max, fits_less}
-use Rattle.cbor4ii_items.specs.Laws.Pairs.{less_max_left, less_max_right}
+use Rattle.cbor4ii_items.specs.Laws.Pairs.{less_max_right}
 use Rattle.cbor4ii_examples.specs.Then.{ReadsThen, RejectsThen, InOneWay, Carries}
 
 -- ---- one type as another
@@ -71,9 +71,7 @@ module _ {A B : Type 0} (first : Reads A) (second : A → Reads B) where
 
   no_first : (xs : List ℕ) (budget : Option ℕ) → NoneRead first xs budget
       → NoneRead (ReadsThen first second) xs budget
-  no_first xs budget none v n c h fits =
-      let less = less_max_left c h.first_cost h.second_cost h.cost in
-      none v.0 h.before h.first_cost h.head (fits_less h.first_cost c budget less fits)
+  no_first xs budget none v n c h fits = search rules
 
   pub first_complete : {E : Type 0} {e : DecodeError E} {a : View} → Complete first a e
       → Complete (ReadsThen first second) a e
@@ -105,9 +103,7 @@ module _ {A : Type 0} (first : Reads A) (first_rejects : RejectsAt)
     (second_rejects : A → RejectsAt) where
   pub first_stopped : {E : Type 0} {e : DecodeError E} {a m : View} → Rejects first_rejects a m e
       → Rejects (RejectsThen first first_rejects second_rejects) a m e
-  first_stopped s =
-      rejects_as first_rejects (RejectsThen first first_rejects second_rejects)
-      (λ xs budget z ys h. inl h) s
+  first_stopped s = search (rules, rejects_as, inl)
 
   pub second_stopped : {E : Type 0} {e : DecodeError E} {a m b : View} {v : A} → Kept a m
       → Sound first a m v → Rejects (second_rejects v) m b e

@@ -1,6 +1,6 @@
 -- The next value of a sequence: an item that is cut.
-use Rattle.std.proofs.Common.{◌≡◌, ℕ, ◌≤◌, List, [], length, drop, take, Option, None, Some, Ok}
-use Rattle.std.proofs.Common.{Err, Result, refl, sym, ap, arith, IfSome, inl, subst}
+use Rattle.std.proofs.Common.{◌≡◌, ℕ, List, [], drop, take, Option, None, Some, Ok}
+use Rattle.std.proofs.Common.{Err, Result, refl, sym, IfSome, inl, subst, rules}
 use Rattle.std.proofs.lemmas.List.{take-append-drop}
 use Rattle.cbor4ii_rw.specs.View.{View}
 use Rattle.cbor4ii_rw.specs.declared.error.DecodeError.{DecodeError}
@@ -35,9 +35,7 @@ pub cut_is_eof : {E : Type 0} (a b : View) (r : Result (Option Value) (DecodeErr
     → Encodes encoding v steps → CostFits steps budget → IsProperPrefix xs encoding → IsBytes xs
     → (name : List ℕ) × (expect : Len) × ReadingRejects xs budget (eof name expect) [])
     → Decodes (item_or_end value_format) a b r → CutIsEof a r
-cut_is_eof a b (Ok None) one prefix d =
-    λ xs known encoding v steps bytes some e fits is.
-    absurd (omega (arith, some, ap length (d.sound.at xs known).read.0))
+cut_is_eof a b (Ok None) one prefix d = search rules
 cut_is_eof a b (Ok (Some w)) one prefix d =
     λ xs known encoding v steps bytes some e fits is.
     let t = d.sound.at xs known in

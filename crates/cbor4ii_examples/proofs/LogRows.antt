@@ -1,7 +1,7 @@
 -- Whole events one after another, and where their reading stops.
 use Rattle.std.proofs.Common.{◌≡◌, ℕ, ◌+◌, ◌≤◌, inl, List, [], ◌∷◌, ◌++◌, length}
 use Rattle.std.proofs.Common.{Option, None, Some, true, false, Ok, Err, Result, IfSome, refl}
-use Rattle.std.proofs.Common.{drop, sym, ap, ◌∙◌, arith, subst}
+use Rattle.std.proofs.Common.{drop, sym, ap, ◌∙◌, arith, subst, rules}
 use Rattle.std.proofs.lemmas.List.{length-drop}
 use Rattle.std.specs.Prelude.{IfNone, IsTrue}
 use Rattle.std.specs.Borrow.{Bor}
@@ -38,15 +38,7 @@ use Rattle.cbor4ii_examples.specs.Log.{Replays, ReplayStops}
 -- of an exact type all is promised
 pub decodes_as : {V E : Type 0} (p : Promise V) {a b : View} {r : Result V (CoreError E)}
     → IsTrue p.exact → Deserializes p a b r → Decodes p.format a b r
-decodes_as p is d = record {
-  moves = d.moves;
-  progress = λ some. d.progress;
-  memory = d.memory;
-  sound = d.sound;
-  complete = d.complete is;
-  rejects = d.rejects is;
-  begins = d.begins (p.reports is);
-}
+decodes_as p is d = search rules
 
 -- what is said of an answer is said of each that equals it
 pub answers : {V E : Type 0} {s : Format V} {a b : View} {r : Result V (DecodeError E)}
@@ -181,13 +173,7 @@ early : {V E : Type 0} (s : Format V) (rest : List ℕ) (error : DecodeError E)
     → IfSome (typed_error_of error) (λ z. (ys : List ℕ) × s.rejects rest (Some limit) z ys)
     → says_cut error ≡ true → EndsEarly s rest
 early s rest (Custom text) none rejects is = cc
-early s rest (Core e) none rejects is =
-    let w = eof_of e is in
-    let r = subst (λ o. IfSome (input_error_of o) (λ z. (ys : List ℕ)
-    × s.rejects rest (Some limit) z ys)) w.2 rejects in
-    let n = subst (λ o. IfSome (input_error_of o) (λ _. NoneRead s.reads rest (Some limit)))
-    w.2 none in
-    record { name = w.0.now; expect = w.1; left = r.0; rejects = r.1; none = n }
+early s rest (Core e) none rejects is = search rules
 
 module _ {E : Type 0} (s : Format Event) {a b : View} (bytes rest : List ℕ)
     (known : a.known ≡ Some rest) (budget : a.budget ≡ Some limit) (events : List Event)
@@ -234,18 +220,7 @@ faulty s bytes (Custom text) at p other = record { stops = p; no_cut = other; me
 pub no_room : (s : Format Event) (bytes rest : List ℕ) (events : List Event) (at : ℕ)
     → IsSequenceOf s.reads bytes events rest → at + length rest ≡ length bytes
     → IsFault {E = Infallible} s bytes (record { at = at; error = Core OutOfMemory })
-no_room s bytes rest events at row is = record {
-  stops = record {
-    before = events;
-    rest = rest;
-    row = row;
-    at = is;
-    none = tt;
-    rejects = tt;
-  };
-  no_cut = refl;
-  memory = refl;
-}
+no_room s bytes rest events at row is = search rules
 
 -- ---- a stream
 

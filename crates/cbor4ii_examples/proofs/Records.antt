@@ -1,6 +1,6 @@
 -- A map that is read by hand.
 use Rattle.std.proofs.Common.{◌≡◌, ◌≢◌, ◌⊎◌, inl, ℕ, ◌+◌, List, [], ◌∷◌, ◌++◌, drop, take, max}
-use Rattle.std.proofs.Common.{Option, None, Some, true, false, refl, sym, ap, ◌∙◌, subst}
+use Rattle.std.proofs.Common.{Option, None, Some, true, false, refl, sym, ap, ◌∙◌, subst, rules}
 use Rattle.std.specs.Prelude.{codes}
 use Rattle.std.specs.Option.{is_some}
 use Rattle.std.specs.declared.alloc.Global.{Global}
@@ -18,8 +18,7 @@ use Rattle.cbor4ii_items.specs.Sequences.{ReadsElements, Unbroken}
 use Rattle.cbor4ii_items.specs.Strings.{ReadsBreak, ReadsTextAs, text_content}
 use Rattle.cbor4ii_items.specs.Laws.Pairs.{pair_sound}
 use Rattle.cbor4ii_items.specs.Laws.Prefixes.{drop_more}
-use Rattle.cbor4ii_items.specs.Laws.Running.{kept_alike}
-use Rattle.cbor4ii_items.specs.Laws.SequenceParts.{fits_max, no_part, parts_then}
+use Rattle.cbor4ii_items.specs.Laws.SequenceParts.{fits_max, parts_then}
 use Rattle.cbor4ii_items.specs.Laws.Steps.{kept_then}
 use Rattle.cbor4ii_examples.specs.declared.by_hand.Record.{Record}
 use Rattle.cbor4ii_examples.specs.ByHand.{Part, number, named, ReadsUnderKey, ReadsPart, Seen}
@@ -36,12 +35,7 @@ pub record SeenSoFar (here there : View) (seen : Seen) : Type 0 where
   pub last : seen ≡ seen_after none_seen parts
 
 pub nothing_seen : (a : View) → SeenSoFar a a none_seen
-nothing_seen a = record {
-  kept = kept_alike a;
-  parts = [];
-  read = no_part (Unbroken ReadsPart) refl refl;
-  last = refl;
-}
+nothing_seen a = search rules
 
 seen_more : (seen : Seen) (parts : List Part) (part : Part)
     → seen_after seen (parts ++ part ∷ []) ≡ and_seen (seen_after seen parts) part

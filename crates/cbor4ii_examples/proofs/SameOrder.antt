@@ -2,9 +2,7 @@
 use Rattle.std.proofs.Common.{◌≡◌, ℕ, zero, suc, refl, sym, ap, ◌∙◌, subst}
 use Rattle.cbor4ii_tree.specs.Basis.Item.{Item, sequence, mapping, tag, Items, no_items, item}
 use Rattle.cbor4ii_tree.specs.Basis.Item.{ItemPairs}
-use Rattle.cbor4ii_tree.specs.Basis.Item.{no_item_pairs, item_pair, null, boolean, integer, float}
-use Rattle.cbor4ii_tree.specs.Basis.Item.{bytes_item}
-use Rattle.cbor4ii_tree.specs.Basis.Item.{text}
+use Rattle.cbor4ii_tree.specs.Basis.Item.{no_item_pairs, item_pair}
 use Rattle.cbor4ii_examples.specs.Sorted.{with_pair_at, SameUpToOrder, SameItems, SamePairs}
 use Rattle.cbor4ii_examples.proofs.SortedValues.{same_as_itself, items_as_themselves}
 

@@ -1,5 +1,5 @@
 -- What is sealed is opened.
-use Rattle.std.proofs.Common.{◌≡◌, ℕ, ◌+◌, ◌^◌, ◌<◌, ◌≤◌, List, [], ◌∷◌, ◌++◌, length, take, max, codes}
+use Rattle.std.proofs.Common.{◌≡◌, ℕ, ◌^◌, ◌<◌, ◌≤◌, List, [], ◌++◌, length, codes}
 use Rattle.std.proofs.Common.{false, refl, sym, ap, ◌∙◌, subst, lit≤, arith}
 use Rattle.std.proofs.lemmas.List.{append-nil}
 use Rattle.std.proofs.Math.Seq.{take-length}
@@ -29,7 +29,7 @@ use Rattle.cbor4ii.specs.CodecFields.{struct_codec, with_field_once, no_fields}
 use Rattle.cbor4ii.specs.Fields.{no_values}
 use Rattle.cbor4ii.specs.ReadBack.{IsReadBack}
 use Rattle.cbor4ii.specs.Typed.{Promise, exact_promise, not_exact}
-use Rattle.cbor4ii_examples.specs.Envelope.{Signatures, Sealed, IsOpened, envelope_encoding}
+use Rattle.cbor4ii_examples.specs.Envelope.{Signatures, IsOpened, envelope_encoding}
 use Rattle.cbor4ii_examples.specs.declared.envelope.Envelope.{Envelope}
 use Rattle.cbor4ii_examples.specs.declared.reply.Reply.{Reply}
 

@@ -1,6 +1,6 @@
 -- Lists that are no shape by their length, and the fields of a frame one after another.
-use Rattle.std.proofs.Common.{◌≡◌, ◌≢◌, ◌∙◌, ◌<◌, ◌+◌, ℕ, List, [], ◌∷◌, length, drop, get_or}
-use Rattle.std.proofs.Common.{Err, refl, ap}
+use Rattle.std.proofs.Common.{◌≡◌, ◌≢◌, ◌<◌, ◌+◌, ℕ, List, [], ◌∷◌, length, drop, get_or}
+use Rattle.std.proofs.Common.{Err, refl, rules}
 use Rattle.std.specs.Prelude.{codes}
 use Rattle.cbor4ii_tree.specs.Basis.View.{view, items_view, pairs_view}
 use Rattle.cbor4ii_tree.specs.declared.value.Value.{Value}
@@ -28,6 +28,4 @@ pub frames-next : (ms : List (Value × Value)) (i : ℕ) (m : Value × Value) (s
     → with_frame_pair s (view m.0) (view m.1) (figure_at (view m.1)) ≡ o
     → frame_pairs_at (pairs_view (drop i ms)) s
     ≡ told_then (frame_pairs_at (pairs_view (drop (i + 1) ms))) o
-frames-next ms i m s o lt is e =
-    ap (λ n. frame_pairs_at n s) (pairs_from ms i m lt is)
-    ∙ ap (told_then (frame_pairs_at (pairs_view (drop (i + 1) ms)))) e
+frames-next ms i m s o lt is e = search (rules, pairs_from)

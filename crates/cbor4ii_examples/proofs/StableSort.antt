@@ -1,4 +1,5 @@
 -- A stable sort has one answer: that of inserting each element before the first that is not less.
+use Rattle.std.proofs.Common.{rules}
 use Rattle.std.proofs.Common.{◌≡◌, ℕ, suc, ◌<◌, ◌≤◌, List, [], ◌∷◌, length, get_or, Bool, true}
 use Rattle.std.proofs.Common.{false, cond, not, ◌&&◌, filter, refl, sym, ap, ◌∙◌, subst, arith}
 use Rattle.std.proofs.lemmas.List.Sorted.{sorted_far}
@@ -114,9 +115,7 @@ module _ {X : Type 0} (lt : X → X → Bool) (o : IsStrictWeakOrder lt) where
 
   kept_all : (a : X) (xs : List X) → filter (ties lt a) (put_all lt xs) ≡ filter (ties lt a) xs
   kept_all a [] = refl
-  kept_all a (x ∷ xs) =
-      kept_put a x (put_all lt xs)
-      ∙ ap (λ zs. cond (ties lt a x) (x ∷ zs) zs) (kept_all a xs)
+  kept_all a (x ∷ xs) = search (rules, kept_put, (kept_all a xs))
 
   -- ---- one answer
 

@@ -1,7 +1,7 @@
 -- What a station is made of, one call after another.
 use Rattle.std.proofs.Common.{◌≡◌, ◌≢◌, ℕ, ◌<◌, ◌≤◌, inl, inr, List, drop, Option, Some, None, Bool}
 use Rattle.std.proofs.Common.{true, false, refl, sym, ap, ◌∙◌, subst, arith, Bor, IfSome, Ok, Err}
-use Rattle.std.proofs.Common.{ltb, ltb-true, ltb-false}
+use Rattle.std.proofs.Common.{ltb, ltb-true, ltb-false, rules}
 use Rattle.std.specs.Prelude.{codes}
 use Rattle.std.specs.declared.alloc.Global.{Global}
 use Rattle.std.specs.declared.string.String.{String}
@@ -17,7 +17,7 @@ use Rattle.cbor4ii_items.specs.Laws.Calls.{ok}
 use Rattle.cbor4ii_items.specs.Laws.Steps.{moves_err, moves_then}
 use Rattle.cbor4ii_items.specs.Heads.{ReadsHead}
 use Rattle.cbor4ii_items.specs.Laws.Heads.{head_one}
-use Rattle.cbor4ii_items.specs.Laws.Answering.{fits_zero, complete_as}
+use Rattle.cbor4ii_items.specs.Laws.Answering.{complete_as}
 use Rattle.cbor4ii_items.specs.Laws.Arguments.{argument_one, zero_small}
 use Rattle.cbor4ii_items.specs.Lengths.{ReadsLength, RejectsLength, length_format}
 use Rattle.cbor4ii_items.specs.Numbers.{ReadsUnsigned, RejectsUnsigned}
@@ -132,26 +132,13 @@ module _ {E : Type 0} {a b : View} where
       → o ≡ Some count → Decodes {E = E} (length_format (codes "array") 4) a b (Ok o)
       → Decodes {E = E} opening_format a b (Err (RequireLength name l))
   opening_other {name = name} {l = l} count other named small big is d =
-      let stopped : Rejects {E = E} RejectsOpening a b (RequireLength name l) =
-      other_stopped count other named small big is d.sound in
-      record {
-        moves = record { by = d.moves.by; depth = λ none. refl };
-        progress = λ some. tt;
-        memory = λ out. cc;
-        sound = tt;
-        complete = λ exact. other_rejected count other is d.sound;
-        rejects = λ exact. stopped;
-        begins = stopped;
-      }
+      search (rules, other_stopped, other_rejected)
 
 -- ---- the end
 
 pub no_end : (indefinite : Bool) (a : View) → indefinite ≡ false
     → Sound (ReadsEnd indefinite) a a tt
-no_end false a e = record {
-  at = λ xs known.
-      record { count = 0; cost = 0; read = (refl, refl); fits = fits_zero a.budget; left = known };
-}
+no_end false a e = search rules
 no_end true a e = cc
 
 break_is : {t : Bool} {a b : View} (u : Bool) → t ≡ u → Sound ReadsBreak a b t
@@ -217,18 +204,7 @@ module _ {E : Type 0} (indefinite : Bool) {a b : View} where
   pub end_other : {name : Bor (List ℕ)} {t : Bool} → indefinite ≡ true
       → name.now ≡ codes "station" → t ≡ false → Decodes {E = E} break_format a b (Ok t)
       → Decodes {E = E} (end_format indefinite) a b (Err (RequireLength name Indefinite))
-  end_other {name = name} opens named is d =
-      let stopped : Rejects {E = E} (RejectsEnd indefinite) a b (RequireLength name Indefinite) =
-      other_end_stopped indefinite opens named is d.sound in
-      record {
-        moves = record { by = d.moves.by; depth = λ none. refl };
-        progress = λ some. tt;
-        memory = λ out. cc;
-        sound = tt;
-        complete = λ exact. other_end_rejected indefinite opens is d.sound;
-        rejects = λ exact. stopped;
-        begins = stopped;
-      }
+  end_other {name = name} opens named is d = search (rules, other_end_stopped, other_end_rejected)
 
 -- ---- a station
 
@@ -236,15 +212,7 @@ module _ {E : Type 0} (indefinite : Bool) {a b : View} where
 pub station_err : {V E : Type 0} {e : DecodeError E} {a m b : View} → Kept a m
     → Moves {V = V} m b (Err e) → Complete ReadsStation a e → Rejects RejectsStation a b e
     → Decodes station_format a b (Err e)
-station_err kept moves rejected stopped = record {
-  moves = moves_then kept (moves_err moves);
-  progress = λ some. tt;
-  memory = λ out. refl;
-  sound = tt;
-  complete = λ exact. rejected;
-  rejects = λ exact. stopped;
-  begins = stopped;
-}
+station_err kept moves rejected stopped = search (rules, moves_then, moves_err)
 
 as_station : {E : Type 0} {e : DecodeError E} {a : View}
     → Complete (ReadsThen ReadsOpening ReadsAfterOpening) a e → Complete ReadsStation a e
@@ -309,28 +277,20 @@ module _ {E : Type 0} {e : DecodeError E} {a i b : View} (indefinite : Bool) (op
       second_stopped ReadsOpening RejectsOpening RejectsAfterOpening opened opening s
 
   pub no_id_stopped : Rejects (RejectsUnsigned (codes "u64") 8) i b e → Rejects RejectsStation a b e
-  no_id_stopped s =
-      after_opening_stopped (first_stopped (ReadsUnsigned 8) (RejectsUnsigned (codes "u64") 8)
-      (RejectsAfterNumber indefinite) s)
+  no_id_stopped s = search (rules, after_opening_stopped, first_stopped)
 
   module _ {j : View} (id : ℕ) (numbered : Kept i j) (number : Sound (ReadsUnsigned 8) i j id) where
     after_id_stopped : Rejects (RejectsAfterNumber indefinite id) j b e →
         Rejects RejectsStation a b e
-    after_id_stopped s =
-        after_opening_stopped (second_stopped (ReadsUnsigned 8) (RejectsUnsigned (codes "u64") 8)
-        (RejectsAfterNumber indefinite) numbered number s)
+    after_id_stopped s = search (rules, after_opening_stopped, second_stopped)
 
     pub no_name_stopped : Rejects (RejectsText (codes "str")) j b e → Rejects RejectsStation a b e
-    no_name_stopped s =
-        after_id_stopped (first_stopped (ReadsTextAs text_content) (RejectsText (codes "str"))
-        (λ name. RejectsEnd indefinite) s)
+    no_name_stopped s = search (rules, after_id_stopped, first_stopped)
 
     pub unended_stopped : {k : View} (name : String Global) → Kept j k
         → Sound (ReadsTextAs text_content) j k name → Rejects (RejectsEnd indefinite) k b e
         → Rejects RejectsStation a b e
-    unended_stopped name named text s =
-        after_id_stopped (second_stopped (ReadsTextAs text_content) (RejectsText (codes "str"))
-        (λ name. RejectsEnd indefinite) named text s)
+    unended_stopped name named text s = search (rules, after_id_stopped, second_stopped)
 
 pub station_sound : {a i j k b : View} (indefinite : Bool) (id : ℕ) (name : String Global)
     → Kept a i → Sound ReadsOpening a i indefinite → Kept i j → Sound (ReadsUnsigned 8) i j id

@@ -1,6 +1,6 @@
 -- Trees one after another.
-use Rattle.std.proofs.Common.{◌≡◌, ◌∙◌, ◌<◌, ◌+◌, ℕ, List, [], ◌∷◌, ◌++◌, length, drop, get_or}
-use Rattle.std.proofs.Common.{Ok, Err, refl, sym, ap}
+use Rattle.std.proofs.Common.{◌≡◌, ◌<◌, ◌+◌, ℕ, List, [], ◌∷◌, ◌++◌, length, drop, get_or}
+use Rattle.std.proofs.Common.{Ok, Err, refl, sym, ap, rules}
 use Rattle.std.proofs.lemmas.List.{append_assoc, map-append}
 use Rattle.cbor4ii_tree.specs.Basis.View.{view, items_view, pairs_view}
 use Rattle.cbor4ii_tree.specs.declared.value.Value.{Value}
@@ -18,9 +18,7 @@ pub pairs-next : (ms : List (Value × Value)) (i : ℕ) (m : Value × Value) (s 
     → with_node_pair s (view m.0) (view m.1) (children_at (view m.1)) ≡ o
     → node_pairs_at (pairs_view (drop i ms)) s
     ≡ told_then (node_pairs_at (pairs_view (drop (i + 1) ms))) o
-pairs-next ms i m s o lt is e =
-    ap (λ n. node_pairs_at n s) (pairs_from ms i m lt is)
-    ∙ ap (told_then (node_pairs_at (pairs_view (drop (i + 1) ms)))) e
+pairs-next ms i m s o lt is e = search (rules, pairs_from)
 
 -- nodes, and those after them
 abbrev pub after : List Node → Told (List Node) → Told (List Node)
@@ -33,9 +31,7 @@ more_told told ns = told_then (λ n. told_as (λ ms. n ∷ ms) ns) told
 pub nodes-next : (vs : List Value) (i : ℕ) (v : Value) (o : Told Node) → i < length vs
     → v ≡ get_or vs i v → node_at (view v) ≡ o
     → nodes_at (items_view (drop i vs)) ≡ more_told o (nodes_at (items_view (drop (i + 1) vs)))
-nodes-next vs i v o lt is e =
-    ap nodes_at (items_from vs i v lt is)
-    ∙ ap (λ n. more_told n (nodes_at (items_view (drop (i + 1) vs)))) e
+nodes-next vs i v o lt is e = search (rules, items_from)
 
 after-more : (ns : List Node) (n : Node) (o : Told (List Node))
     → after ns (more_told (Ok n) o) ≡ after (ns ++ n ∷ []) o
@@ -46,6 +42,4 @@ after-more ns n (Ok ms) = ap Ok (sym (append_assoc ns (n ∷ []) ms))
 pub after-pushed : (trees : List Tree) (tree : Tree) (pushed : List Tree) (o : Told (List Node))
     → pushed ≡ trees ++ tree ∷ []
     → after (tree_nodes trees) (more_told (Ok (tree_node tree)) o) ≡ after (tree_nodes pushed) o
-after-pushed trees tree pushed o e = after-more (tree_nodes trees) (tree_node tree) o
-    ∙ ap (λ (ns : List Node). after ns o)
-    (sym (ap tree_nodes e ∙ map-append tree_node trees (tree ∷ [])))
+after-pushed trees tree pushed o e = search (rules, after-more, map-append)

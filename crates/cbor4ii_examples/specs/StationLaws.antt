@@ -1,6 +1,6 @@
 -- A station is read in one way, from its own bytes alone.
 use Rattle.std.proofs.Common.{◌≡◌, ℕ, List, [], ◌∷◌, ◌++◌, take, Bool, true, false, refl, sym, ◌∙◌}
-use Rattle.std.proofs.Common.{subst, arith}
+use Rattle.std.proofs.Common.{subst, arith, rules}
 use Rattle.cbor4ii_items.specs.Head.{break, indefinite_head}
 use Rattle.cbor4ii_items.specs.Laws.Heads.{head_one, head_read, head_alone}
 use Rattle.cbor4ii_items.specs.Numbers.{ReadsUnsigned}
@@ -79,24 +79,18 @@ numbered_one indefinite =
     (argument_one 0 8 zero_small) (named_one indefinite)
 
 named_within : (indefinite : Bool) (id : ℕ) → Within (ReadsAfterNumber indefinite id)
-named_within indefinite id =
-    then_within (ReadsTextAs text_content) (λ name. ReadsEnd indefinite)
-    (text_within text_content) (λ name. end_within indefinite)
+named_within indefinite id = search (rules, then_within, text_within, end_within)
 
 numbered_within : (indefinite : Bool) → Within (ReadsAfterOpening indefinite)
 numbered_within indefinite =
-    then_within (ReadsUnsigned 8) (ReadsAfterNumber indefinite)
-    (argument_within 0 8 zero_small) (named_within indefinite)
+    search (rules, then_within, argument_within, zero_small, named_within)
 
 named_alone : (indefinite : Bool) (id : ℕ) → Alone (ReadsAfterNumber indefinite id)
-named_alone indefinite id =
-    then_alone (ReadsTextAs text_content) (λ name. ReadsEnd indefinite)
-    (text_within text_content) (text_alone text_content) (λ name. end_alone indefinite)
+named_alone indefinite id = search (rules, then_alone, text_within, text_alone, end_alone)
 
 numbered_alone : (indefinite : Bool) → Alone (ReadsAfterOpening indefinite)
 numbered_alone indefinite =
-    then_alone (ReadsUnsigned 8) (ReadsAfterNumber indefinite)
-    (argument_within 0 8 zero_small) (argument_alone 0 8) (named_alone indefinite)
+    search (rules, then_alone, argument_within, zero_small, argument_alone, named_alone)
 
 -- what is read after an opening is read after the same opening
 pub opening_carries : Carries (λ a b. a ≡ b) ReadsAfterOpening
@@ -115,10 +109,7 @@ station_one xs v w n m c d p q =
     (r.0, r.1, (r.2.1.0, r.2.1.1.0))
 
 pub station_within : Within ReadsStation
-station_within xs v n c p =
-    then_within ReadsOpening ReadsAfterOpening opening_within numbered_within xs
-    (station_parts p.0 v) n c
-    p.1
+station_within xs v n c p = search (rules, then_within, opening_within, numbered_within)
 
 pub station_positive : Positive ReadsStation
 station_positive xs v n c p =
@@ -131,9 +122,4 @@ station_alone xs ys v n c p =
     (p.0, whole xs ys (station_parts p.0 v) n c p.1)
 
 pub station_lawful : IsLawful station_format
-station_lawful = record {
-  one = station_one;
-  within = station_within;
-  positive = λ some. station_positive;
-  alone = λ closed. station_alone;
-}
+station_lawful = search (rules, station_one, station_within, station_positive, station_alone)

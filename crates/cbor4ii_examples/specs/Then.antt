@@ -1,6 +1,6 @@
 -- One part after another: what is read, how it is rejected, and the laws of both.
 use Rattle.std.proofs.Common.{◌≡◌, ℕ, ◌+◌, ◌≤◌, ◌⊎◌, List, ◌++◌, length, take, drop, Option, sym}
-use Rattle.std.proofs.Common.{ap, ◌∙◌, subst, arith, max}
+use Rattle.std.proofs.Common.{ap, ◌∙◌, subst, arith, max, rules}
 use Rattle.std.proofs.lemmas.List.{length-drop}
 use Rattle.cbor4ii_items.specs.Decoding.{Reads, RejectsAt}
 use Rattle.cbor4ii_items.specs.Budget.{CostFits}
@@ -77,10 +77,7 @@ module _ {A B : Type 0} (first : Reads A) (second : A → Reads B) where
       (omega (arith, p.size, q.size, h.0, t.0), cost h.1 t.1, (h.2, t.2))
 
   pub then_within : Within first → ((a : A) → Within (second a)) → Within (ReadsThen first second)
-  then_within one two xs v n c p =
-      let h = one xs v.0 p.before p.first_cost p.head in
-      let t = two v.0 (drop p.before xs) v.1 p.trailing p.second_cost p.tail in
-      omega (arith, p.size, h, t, length-drop p.before xs)
+  then_within one two xs v n c p = search (rules, length-drop)
 
   pub then_positive : Positive first → Positive (ReadsThen first second)
   then_positive one xs v n c p =

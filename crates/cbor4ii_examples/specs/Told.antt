@@ -1,7 +1,7 @@
 -- What an item stands for, or the words that reject it: the parts of a described struct, one level
 -- at a time, and the codec of a type that is read so.
-use Rattle.std.proofs.Common.{◌≡◌, ◌∙◌, ℕ, List, Option, None, Some, Result, Ok, Err, true, refl}
-use Rattle.std.proofs.Common.{ap}
+use Rattle.std.proofs.Common.{◌≡◌, ℕ, List, Option, None, Some, Result, Ok, Err, true, refl}
+use Rattle.std.proofs.Common.{ap, rules}
 use Rattle.std.specs.Prelude.{ℤ, pos, negsuc, nat_lt, if◌then◌else◌}
 use Rattle.std.specs.declared.alloc.Global.{Global}
 use Rattle.cbor4ii_tree.specs.Basis.Item.{Item, integer, text}
@@ -118,9 +118,7 @@ module _ {A T : Type 0} (tells : Item → Told A) (shown : T → A)
   Made = IsMade (λ v. told_words (tells (view v))) (λ v t. tells (view v) ≡ Ok (shown t))
 
   made_of : (t : T) → stands (shown t) → (held : ValueOf (item (shown t))) → Made held.value t
-  made_of t s held =
-      let made = ap tells held.is ∙ h.read (shown t) s in
-      record { passes = ap told_words made; made = made }
+  made_of t s held = search rules
 
   pub told_back : Global → (t : T) → stands (shown t)
       → IsReadBack (checked_from (λ v. told_words (tells (view v)))

@@ -1,6 +1,6 @@
 -- Numbers below a limit.
 use Rattle.std.proofs.Common.{◌≡◌, ℕ, ◌≤◌, List, Ok, Err, Bool, true, false, refl, cond, ltb}
-use Rattle.std.proofs.Common.{ltb-true, ltb-false, ◌<◌}
+use Rattle.std.proofs.Common.{ltb-true, ltb-false, ◌<◌, rules}
 use Rattle.cbor4ii_items.specs.InputError.{InputError, cast_overflow}
 use Rattle.cbor4ii_items.specs.Reading.{give, reject}
 use Rattle.cbor4ii_items.specs.ReadNumber.{below}
@@ -22,9 +22,7 @@ above_by : (t : Bool) (name : List ℕ) (limit v : ℕ) (z : InputError) (ys zs 
     → cond t (give v) (reject (cast_overflow name)) ys ≡ Err (z, zs)
     → (cast_overflow name ≡ z) × (ys ≡ zs) × (limit ≤ v)
 above_by true name limit v z ys zs h e = cc
-above_by false name limit v z ys zs h e =
-    let p = same_input_error {V = ℕ} (Err (cast_overflow name, ys)) refl e in
-    (p.0, p.1, ltb-false v limit h)
+above_by false name limit v z ys zs h e = search (rules, same_input_error, ltb-false)
 
 pub below_err : (name : List ℕ) (limit v : ℕ) (z : InputError) (ys zs : List ℕ)
     → below name limit v ys ≡ Err (z, zs) → (cast_overflow name ≡ z) × (ys ≡ zs) × (limit ≤ v)

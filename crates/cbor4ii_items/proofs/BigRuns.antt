@@ -1,6 +1,6 @@
 -- Integers of sixteen bytes, one part after another.
 use Rattle.std.proofs.Common.{◌≡◌, ◌≢◌, ℕ, ◌/◌, ◌^◌, ◌<◌, ◌≤◌, List, [], ◌∷◌, Some, Result, Ok}
-use Rattle.std.proofs.Common.{false, refl, ap, ◌∙◌, arith, eqb, ne_eqb, ltb, le-ltb}
+use Rattle.std.proofs.Common.{false, refl, ap, ◌∙◌, arith, eqb, ne_eqb, ltb, le-ltb, rules}
 use Rattle.std.specs.Prelude.{codes, ℤ, pos, negsuc}
 use Rattle.std.proofs.lemmas.Int.{to_z-of_z}
 use mir.Val.{to_z, of_z}
@@ -46,10 +46,7 @@ runs_u128_tag b e p q = runs_then u128_by p (runs_as (u128_tag b e) q)
 
 i128_tag : (b : ℕ) → b / 32 ≢ 0 → b / 32 ≢ 1
     → i128_by b ≡ (head_at (codes "i128") 6 1 >=> signed_bignum_at)
-i128_tag b p q =
-    let s : eqb (b / 32) 0 ≡ false = ne_eqb (b / 32) 0 p in
-    let t : eqb (b / 32) 1 ≡ false = ne_eqb (b / 32) 1 q in
-    rw (s, t) refl
+i128_tag b p q = search (rules, ne_eqb)
 
 pub runs_i128_positive : {E : Type 0} (b : ℕ) {a m c : View} {r : Result ℤ (DecodeError E)}
     → b / 32 ≡ 0 → Runs {E = E} (peek_at (codes "i128") 1) a m (Ok b)
@@ -110,6 +107,4 @@ plus_whole {v = v} e p =
 
 pub minus_whole : {E : Type 0} {v : ℕ} {z : ℤ} {a m : View} → z ≡ negsuc v
     → Runs {E = E} (head_at (codes "i128") 1 8) a m (Ok v) → Runs {E = E} i128_at a m (Ok z)
-minus_whole {v = v} e p =
-    runs_where (λ xs known. let s = p.answers xs known in as_minus v xs s.0 s.2)
-    (runs_with negsuc e p)
+minus_whole {v = v} e p = search (rules, runs_where, as_minus, runs_with)

@@ -1,25 +1,23 @@
 -- Optional and tagged items, one part after another.
 use Rattle.std.proofs.Common.{◌≡◌, ◌≢◌, ℕ, ◌+◌, ◌≤◌, inl, inr, List, [], ◌∷◌, length, take, drop}
-use Rattle.std.proofs.Common.{Option, Some, None, Ok, Err, true, false, refl, sym, ap, ◌∙◌, subst}
-use Rattle.std.proofs.Common.{arith}
+use Rattle.std.proofs.Common.{Option, Some, None, Ok, Err, true, false, refl, sym, ap, subst}
+use Rattle.std.proofs.Common.{arith, rules}
 use Rattle.std.specs.Prelude.{codes}
 use Rattle.cbor4ii_rw.specs.View.{View, IfKnown}
 use Rattle.cbor4ii_rw.specs.declared.error.DecodeError.{DecodeError}
 use Rattle.cbor4ii_items.specs.InputError.{InputError, is_out_of_memory}
 use Rattle.cbor4ii_items.specs.Reading.{Runs, peek_at}
 use Rattle.cbor4ii_items.specs.Decoding.{Reads, RejectsAt, NoneRead, Format, Decodes}
-use Rattle.cbor4ii_items.specs.Containers.{BeginsNull, ReadsOption, RejectsOption}
+use Rattle.cbor4ii_items.specs.Containers.{BeginsNull, ReadsOption, RejectsOption, RejectsAfterTag}
 use Rattle.cbor4ii_items.specs.Laws.Calls.{IsRejected, err_of, ok_after, err_after, of_exact}
 use Rattle.cbor4ii_items.specs.Laws.Calls.{decodes_exactly}
-use Rattle.cbor4ii_items.specs.Laws.Containers.{option_format, not_null, no_option}
+use Rattle.cbor4ii_items.specs.Laws.Containers.{option_format, not_null, no_option, tag_format}
 use Rattle.cbor4ii_items.specs.Laws.Outcome.{same_input_error}
 use Rattle.cbor4ii_items.specs.Laws.Running.{peek_byte, kept_alike}
 use Rattle.cbor4ii_items.specs.declared.types.Tag.{Tag}
 use Rattle.cbor4ii_items.specs.Heads.{ReadsHead}
 use Rattle.cbor4ii_items.specs.Numbers.{argument_format}
-use Rattle.cbor4ii_items.specs.Containers.{RejectsAfterTag}
 use Rattle.cbor4ii_items.specs.Laws.Answering.{fits_zero}
-use Rattle.cbor4ii_items.specs.Laws.Containers.{tag_format}
 use Rattle.cbor4ii_items.specs.Laws.Prefixes.{drop_more}
 use Rattle.cbor4ii_items.specs.Laws.Heads.{head_one}
 
@@ -36,14 +34,7 @@ first_of b rest (x ∷ xs) e = let f : x ≡ b = cc in (ap (λ z. z ∷ []) f, o
 
 pub saw : {E : Type 0} (name : List ℕ) (expect b : ℕ) {a m : View}
     → Runs {E = E} (peek_at name expect) a m (Ok b) → Saw a m b
-saw name expect b p = record {
-  first = λ xs known.
-      let h = p.answers xs known in
-      let q = peek_byte name expect b xs h.0 h.2 in
-      let f = first_of b q.0 xs q.1 in
-      (h.1 ∙ ap Some q.2, f.0, f.1);
-  budget = p.moves.by.budget;
-}
+saw name expect b p = search (rules, peek_byte)
 
 -- ---- an item or none
 
@@ -56,12 +47,7 @@ rejected_end : {V : Type 0} (s : Format V) (xs : List ℕ) (budget : Option ℕ)
     (ys : List ℕ) → peek_at (codes "option") 1 xs ≡ Err (z, ys)
     → IsRejected true (option_format s) xs budget z ys
 rejected_end s (x ∷ xs) budget z ys e = cc
-rejected_end s [] budget z ys e =
-    let r = same_input_error (peek_at (codes "option") 1 []) refl e in record {
-      none = λ is. no_bytes s.reads budget;
-      rejects = (sym r.0, sym r.1);
-      begins = (sym r.0, sym r.1);
-    }
+rejected_end s [] budget z ys e = search (rules, same_input_error, no_bytes)
 
 rejects_some : (rejects : RejectsAt) (xs : List ℕ) (budget : Option ℕ) (z : InputError)
     (ys : List ℕ)
@@ -112,9 +98,7 @@ module _ {V E : Type 0} (s : Format V) {a m : View} where
 module _ {V : Type 0} (s : Format V) where
   no_tag : (xs : List ℕ) (k n : ℕ) (budget : Option ℕ) → ReadsHead 6 8 xs k n
       → NoneRead s.reads (drop n xs) budget → NoneRead (tag_format s).reads xs budget
-  no_tag xs k n budget head none t m c q fits =
-      let same = head_one 6 8 xs t.0 k q.before n (omega arith) q.head head in
-      none t.1 q.count c (subst (λ i. s.reads (drop i xs) t.1 q.count c) same.0 q.item) fits
+  no_tag xs k n budget head none t m c q fits = search (rules, head_one)
 
 module _ {V E : Type 0} (s : Format V) {a m : View} where
   pub tag_head_err : {e : DecodeError E}

@@ -1,7 +1,7 @@
 -- A content that is lent, or copied, as what the owned strings read.
-use Rattle.std.proofs.Common.{◌≡◌, ℕ, ◌<◌, List, [], length, drop, Option, None, Some, Result, Ok}
-use Rattle.std.proofs.Common.{Err, Bool, true, false, IsTrue, refl, sym, ap, ◌∙◌, subst, arith}
-use Rattle.std.proofs.Common.{IfSome, IfOk, ◌+◌, ◌≤◌}
+use Rattle.std.proofs.Common.{◌≡◌, ℕ, ◌<◌, List, [], length, Option, None, Some, Result, Ok}
+use Rattle.std.proofs.Common.{Err, Bool, true, false, IsTrue, refl, sym, subst}
+use Rattle.std.proofs.Common.{IfSome, IfOk, ◌+◌, ◌≤◌, rules}
 use denote.Ref.{Bor}
 use Rattle.cbor4ii_rw.specs.View.{View, IfKnown}
 use Rattle.cbor4ii_rw.specs.declared.error.DecodeError.{DecodeError}
@@ -12,7 +12,7 @@ use Rattle.cbor4ii_items.specs.ReadHead.{length_at}
 use Rattle.cbor4ii_items.specs.ReadStrings.{content_on, string_at}
 use Rattle.cbor4ii_items.specs.Laws.DefiniteContent.{content_whole}
 use Rattle.cbor4ii_items.specs.Laws.Outcome.{same_value}
-use Rattle.cbor4ii_items.specs.Laws.ProgramEnds.{length_none, content_inverse}
+use Rattle.cbor4ii_items.specs.Laws.ProgramEnds.{length_none}
 use Rattle.cbor4ii_items.specs.Laws.Strings.{length_indefinite}
 use Rattle.cbor4ii_items.specs.Strings.{string_format}
 use Rattle.cbor4ii_items.specs.Lent.{Lends, Stays}
@@ -28,16 +28,7 @@ use Rattle.cbor4ii_items.proofs.StringAnswers.{content_ok, content_err, text_ok,
 -- what is lent is what the program reads
 pub lends_runs : {E : Type 0} (name : List ℕ) {count : ℕ} {content : List ℕ} {a b : View}
     → Lends count content a b → Runs {E = E} (content_on name count []) a b (Ok content)
-lends_runs name {count = count} l = record {
-  moves = record { by = l.kept; depth = λ e. refl };
-  answers = λ xs known.
-      let t = l.at xs known in (
-        drop count xs,
-        t.1,
-        content_whole name count [] xs t.0
-            ∙ ap (λ (z : List ℕ). Ok (z, drop count xs)) (sym t.2),
-      );
-}
+lends_runs name {count = count} l = search (rules, content_whole)
 
 pub takes_still : {V E : Type 0} {program : Reading (List ℕ)} (is_text : Bool)
     (content : V → List ℕ) {a m b : View} (r : Result (Option V) (DecodeError E)) → Stays a m
@@ -51,10 +42,7 @@ pub few_borrows : {V E : Type 0} (name : List ℕ) (count : ℕ) (is_text : Bool
     → (IsTrue a.zero_copy → IfKnown a.known (λ xs. length xs < count))
     → TakesContent (content_on name count []) is_text content m b r
     → IfOk r (λ value. IfSome value (IsBorrowedWhereWhole IsBorrowed a))
-few_borrows name count is_text content IsBorrowed (Ok (Some v)) s few t = λ whole xs known.
-    let h = t.by.1.answers xs (s.known xs known) in
-    let long = (content_inverse name count [] xs t.by.0 h.0 h.2).0 in
-    absurd (omega (arith, few whole xs known, long))
+few_borrows name count is_text content IsBorrowed (Ok (Some v)) s few t = search rules
 few_borrows name count is_text content IsBorrowed _ s few t = tt
 
 -- ---- a string
@@ -110,12 +98,7 @@ module _ {V E : Type 0} (name : List ℕ) (major : ℕ) (IsBorrowed IsOwned : V 
     {l : Option ℕ} (run : Runs {E = E} (length_at name major) a m (Ok l)) where
   definite_borrows : {count : ℕ} (v : V) → l ≡ Some count → IsBorrowedWhereWhole IsBorrowed m v
       → BorrowsWhereDefinite major IsBorrowed IsOwned a v
-  definite_borrows v is h = record {
-    indefinite = λ xs known begins. let f = length_indefinite name major xs begins in
-        let g = (same_value _ f (run.answers xs known).2).0 in cc;
-    definite = λ whole xs known other. let g = run.answers xs known in
-        h (run.moves.by.zero_copy whole) g.0 g.1;
-  }
+  definite_borrows v is h = search (rules, length_indefinite, same_value)
 
   pub known_borrows : {count : ℕ} (r : Result (Option V) (DecodeError E)) → l ≡ Some count
       → IfOk r (λ value. IfSome value (IsBorrowedWhereWhole IsBorrowed m))
@@ -125,11 +108,5 @@ module _ {V E : Type 0} (name : List ℕ) (major : ℕ) (IsBorrowed IsOwned : V 
 
   pub joined_owns : (value : Option V) → l ≡ None → IfSome value IsOwned
       → IfSome value (BorrowsWhereDefinite major IsBorrowed IsOwned a)
-  joined_owns (Some v) is h = record {
-    indefinite = λ xs known begins. h;
-    definite = λ whole xs known other.
-        let g = run.answers xs known in
-        absurd
-        (other (length_none name major xs g.0 (g.2 ∙ ap (λ (z : Option ℕ). Ok (z, g.0)) is)).0);
-  }
+  joined_owns (Some v) is h = search (rules, length_none)
   joined_owns None is h = tt

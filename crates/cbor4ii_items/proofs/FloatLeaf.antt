@@ -1,8 +1,7 @@
 -- Floats, read as their bits.
 use Rattle.std.proofs.Common.{◌≡◌, ℕ, suc, ◌^◌, ◌<◌, ◌≤◌, inl, inr, List, [], ◌∷◌, ◌++◌, length}
 use Rattle.std.proofs.Common.{get_or, drop, take, Ok, refl, sym, ap₂, ap, ◌∙◌, subst, arith}
-use Rattle.std.proofs.Common.{length-append}
-use Rattle.std.specs.Int.{bytes_high_first}
+use Rattle.std.proofs.Common.{length-append, rules}
 use Rattle.std.proofs.lemmas.List.{length-drop, length-take-le, take-append-drop}
 use Rattle.cbor4ii_rw.specs.View.{View, IfKnown}
 use Rattle.cbor4ii_rw.specs.Reader.{Shows, Advances, IsPrefix}
@@ -53,17 +52,7 @@ module _ (name : List ℕ) (marker count : ℕ) where
   float_cut : (xs : List ℕ) (z : InputError) (ys : List ℕ) → ErrParts
       (marked_at name marker marker xs)
       (λ b. number_on name count count 0) z ys → CutFloat name marker count xs z ys
-  float_cut xs z ys h =
-      let m = marked_value name marker marker h.value xs h.rest h.begun in
-      let r = number_cut name count count 0 h.rest z ys h.ended in
-      let first : h.value ≡ marker = omega (arith, m.1, m.2) in
-      record {
-        trailing = h.rest;
-        is = m.0 ∙ ap (λ b. b ∷ h.rest) first;
-        short = r.0;
-        answer = r.1;
-        left = r.2;
-      }
+  float_cut xs z ys h = search (rules, marked_value, number_cut)
 
   pub float_leaf : IsLeaf (float_at name marker count) (ReadsFloat marker count)
       (RejectsFloat name marker count)
@@ -87,16 +76,7 @@ pub prefix_is_float : (marker count : ℕ) (prefix content : List ℕ)
     → marker < 256 → IsBytes content → StandsWhole marker count prefix (number_of content)
 prefix_is_float marker count [] content trailing long first small bytes = absurd (omega arith)
 prefix_is_float marker count (b ∷ bs) content trailing long first small bytes =
-    let size : length content ≡ count =
-    ap length trailing ∙ length-take-le count bs (omega arith) in
-    record {
-      long = long;
-      bytes = (omega (arith, first, small), subst IsBytes trailing bytes);
-      fits = subst (λ k. number_of content < 256 ^ k) size (onto-lt content bytes);
-      is =
-          ap₂ ◌∷◌ first (sym trailing ∙ (sym (bytes_onto content 0 bytes)
-          ∙ ap (λ k. bytes_high_first k (number_of content)) size));
-    }
+    search (rules, length-take-le, onto-lt, ◌∷◌, bytes_onto)
 
 float_shown : {marker count bits : ℕ} (n : ℕ) {prefix xs : List ℕ} → n ≡ suc count
     → StandsWhole marker count prefix bits → take n prefix ≡ take n xs
@@ -134,8 +114,4 @@ pub took_float : {E : Type 0} {marker count bits n want : ℕ} {prefix : List �
     → Shows prefix a m → IfKnown a.known (IsPrefix want prefix)
     → (n ≡ suc count) × StandsWhole marker count prefix bits → Advances n m b
     → TookSeen E (λ name. float_at name marker count) (λ v. v < 256 ^ count) bits a b
-took_float shows prefix h adv = record {
-  runs = λ name. runs_float name h.0 shows prefix h.1 adv;
-  fits = h.1.fits;
-  progress = omega (arith, h.0, adv.bound, shows.bound);
-}
+took_float shows prefix h adv = search (rules, runs_float)

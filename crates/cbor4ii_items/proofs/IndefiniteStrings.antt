@@ -1,6 +1,6 @@
 -- Steps, chunks and strings.
 use Rattle.std.proofs.Common.{◌≡◌, ℕ, zero, suc, List, [], Option, None, Some, Result, Ok, Err}
-use Rattle.std.proofs.Common.{Bool, true, false, refl, sym, ap, ◌∙◌, subst, arith}
+use Rattle.std.proofs.Common.{Bool, true, false, refl, sym, ◌∙◌, subst, arith, rules}
 use Rattle.cbor4ii_rw.specs.View.{View}
 use Rattle.cbor4ii_rw.specs.Reader.{KeepsAllButBudget, StepsIn, step_back}
 use Rattle.cbor4ii_rw.specs.declared.error.DecodeError.{DecodeError}
@@ -34,9 +34,7 @@ pub chunk_runs : {E : Type 0} (name : List ℕ) (major : ℕ) (content : List �
     → Runs (chunk_inside_at name major content) b c r → d.budget ≡ step_back c.budget
     → KeepsAllButBudget c d → Runs (chunk_at name major a.budget content) a d r
 chunk_runs name major content {a = a} {b = b} takes inward f gives outward =
-    runs_as (stepped_in name major content a.budget b.budget takes)
-    (runs_around inward outward (λ none. step_unbound a.budget b.budget takes none)
-    (λ same. gives ∙ (ap step_back same ∙ step_again a.budget b.budget takes)) f)
+    search (rules, runs_as, stepped_in, runs_around, step_unbound, step_again)
 
 -- ---- chunks up to a break
 
@@ -51,9 +49,7 @@ module _ (name : List ℕ) (major : ℕ) (budget : Option ℕ) where
 
     pub indefinite_ended : {E : Type 0} {e : DecodeError E} → Runs {V = Bool} break_at l m (Err e)
         → Runs f a m (Err e)
-    indefinite_ended q =
-        reaches_end p (runs_as (chunks_more name major budget content)
-        (runs_err (chunks_by name major budget content (chunks_at name major budget)) q))
+    indefinite_ended q = search (rules, reaches_end, runs_as, chunks_more, runs_err)
 
     pub indefinite_done : {E : Type 0} {ended : Bool} → ended ≡ true
         → Runs {E = E} break_at l m (Ok ended) → Runs {E = E} f a m (Ok content)

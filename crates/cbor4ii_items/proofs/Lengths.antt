@@ -1,10 +1,10 @@
 -- Lengths are read exactly as they are encoded.
 use Rattle.std.proofs.Common.{◌≡◌, ℕ, ◌<◌, ◌≤◌, List, [], ◌∷◌, length, drop, take, Option, None}
-use Rattle.std.proofs.Common.{Some, Result, Ok, refl, sym, ap, ◌∙◌, subst, arith}
+use Rattle.std.proofs.Common.{Some, Result, Ok, refl, sym, ap, subst, arith, rules}
 use Rattle.std.proofs.lemmas.List.{length-drop}
 use Rattle.cbor4ii_rw.specs.View.{View}
 use Rattle.cbor4ii_rw.specs.declared.error.DecodeError.{DecodeError}
-use Rattle.cbor4ii_items.specs.Head.{IsBytes, indefinite_head}
+use Rattle.cbor4ii_items.specs.Head.{IsBytes}
 use Rattle.cbor4ii_items.specs.Reading.{Reading, Runs}
 use Rattle.cbor4ii_items.specs.ReadHead.{length_at}
 use Rattle.cbor4ii_items.specs.Laws.Heads.{read_head, head_read}
@@ -25,9 +25,7 @@ length_means : (name : List ℕ) (major : ℕ) (xs : List ℕ) (v : Option ℕ) 
     → ReadsLength major xs v n 0
 length_means name major xs (Some v) n e within bytes =
     (read_head name major 8 xs v n (length_some name major v xs (drop n xs) e) within bytes, refl)
-length_means name major xs None n e within bytes =
-    let o = length_none name major xs (drop n xs) e in
-    (o.0, one_byte (indefinite_head major) n xs o.0 within o.1, refl)
+length_means name major xs None n e within bytes = search (rules, length_none, one_byte)
 
 some_byte : (b : ℕ) (xs : List ℕ) → take 1 xs ≡ b ∷ [] → 1 ≤ length xs
 some_byte b [] e = cc
@@ -35,28 +33,12 @@ some_byte b (x ∷ xs) e = omega arith
 
 pub length_again : (name : List ℕ) (major : ℕ) → major < 8 → (xs : List ℕ) (v : Option ℕ) (n c : ℕ)
     → ReadsLength major xs v n c → ReadBy (length_at name major) xs v n c
-length_again name major m xs (Some v) n c p =
-    let h = head_read name major 8 xs v n m p.0 in
-    record {
-      answer = length_known name major xs v n m p.0;
-      within = h.1;
-      positive = h.2;
-      cost = p.1;
-    }
-length_again name major m xs None n c p = record {
-  answer = length_indefinite name major xs p.0 ∙ ap (λ (k : ℕ). Ok (None, drop k xs)) (sym p.1);
-  within = omega (arith, p.1, some_byte (indefinite_head major) xs p.0);
-  positive = omega (arith, p.1);
-  cost = p.2;
-}
+length_again name major m xs (Some v) n c p = search (rules, head_read, length_known)
+length_again name major m xs None n c p = search (rules, length_indefinite, some_byte)
 
 pub length_leaf : (name : List ℕ) (major : ℕ) → major < 8
     → IsLeaf (length_at name major) (ReadsLength major) (RejectsLength name major)
-length_leaf name major m = record {
-  means = length_means name major;
-  again = length_again name major m;
-  is_complete = λ xs budget z n e within bytes. no_length name major xs z (drop n xs) e;
-}
+length_leaf name major m = search (rules, length_means, length_again, no_length)
 
 -- ---- whatever the call answers
 

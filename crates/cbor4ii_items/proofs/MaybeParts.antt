@@ -1,7 +1,7 @@
 -- Arrays of no item or one, one part after another.
-use Rattle.std.proofs.Common.{◌≡◌, ℕ, zero, suc, ◌+◌, ◌≤◌, inl, inr, List, [], length, drop, take}
-use Rattle.std.proofs.Common.{Option, Some, None, Ok, Err, Bool, true, false, refl, sym, ap, ◌∙◌}
-use Rattle.std.proofs.Common.{subst, arith}
+use Rattle.std.proofs.Common.{◌≡◌, ℕ, zero, suc, ◌+◌, ◌≤◌, inl, inr, List, length, drop, take}
+use Rattle.std.proofs.Common.{Option, Some, None, Ok, Err, Bool, true, false, refl, sym, ap}
+use Rattle.std.proofs.Common.{subst, arith, rules}
 use Rattle.std.specs.Prelude.{codes}
 use Rattle.cbor4ii_rw.specs.View.{View}
 use Rattle.cbor4ii_rw.specs.declared.error.DecodeError.{DecodeError}
@@ -19,9 +19,8 @@ use Rattle.cbor4ii_items.specs.Laws.Strings.{length_known}
 use Rattle.cbor4ii_items.specs.Laws.Prefixes.{drop_more}
 use Rattle.cbor4ii_items.specs.Laws.Arguments.{ReadBy}
 use Rattle.cbor4ii_items.specs.Maybe.{ReadsFew, ReadsMaybe, RejectsFew, few_head_rejected}
-use Rattle.cbor4ii_items.specs.Maybe.{few_indefinite}
-use Rattle.cbor4ii_items.specs.Maybe.{few_other, maybe_head_rejected, maybe_item_rejected, few_by}
-use Rattle.cbor4ii_items.specs.Maybe.{few_at, few_format}
+use Rattle.cbor4ii_items.specs.Maybe.{few_indefinite, few_other, maybe_head_rejected}
+use Rattle.cbor4ii_items.specs.Maybe.{maybe_item_rejected, few_by, few_at, few_format}
 use Rattle.cbor4ii_items.specs.Laws.Maybe.{two_counts, maybe_format}
 use Rattle.cbor4ii_items.specs.Laws.Calls.{ok, ok_after, err_after, of_exact, decodes_exactly}
 use Rattle.cbor4ii_items.specs.Laws.Running.{kept_alike}
@@ -33,20 +32,14 @@ use Rattle.cbor4ii_items.proofs.StringsRead.{no_length}
 
 few_head : (xs ys : List ℕ) (k n : ℕ) → length_at (codes "array") 4 xs ≡ Ok (Some k, ys)
     → ys ≡ drop n xs → n ≤ length xs → IsBytes (take n xs) → ReadsHead 4 8 xs k n
-few_head xs ys k n e is within bytes =
-    read_head (codes "array") 4 8 xs k n
-    (length_some (codes "array") 4 k xs ys e ∙ ap (λ (zs : List ℕ). Ok (k, zs)) is) within bytes
+few_head xs ys k n e is within bytes = search (rules, read_head, length_some)
 
 few_found : (xs ys : List ℕ) (v : Bool) (n : ℕ) (l : Option ℕ)
     → length_at (codes "array") 4 xs ≡ Ok (l, ys) → few_by l ys ≡ Ok (v, drop n xs) → n ≤ length xs
     → IsBytes (take n xs) → ReadsFew xs v n 0
 few_found xs ys v n None e f within bytes = cc
-few_found xs ys v n (Some zero) e f within bytes =
-    let p = same_value (Ok (false, ys)) refl f in
-    subst (λ t. ReadsFew xs t n 0) p.0 (few_head xs ys 0 n e p.1 within bytes, refl)
-few_found xs ys v n (Some (suc zero)) e f within bytes =
-    let p = same_value (Ok (true, ys)) refl f in
-    subst (λ t. ReadsFew xs t n 0) p.0 (few_head xs ys 1 n e p.1 within bytes, refl)
+few_found xs ys v n (Some zero) e f within bytes = search (rules, same_value, few_head)
+few_found xs ys v n (Some (suc zero)) e f within bytes = search (rules, same_value, few_head)
 few_found xs ys v n (Some (suc (suc k))) e f within bytes = cc
 
 few_means : (xs : List ℕ) (v : Bool) (n : ℕ) → few_at xs ≡ Ok (v, drop n xs) → n ≤ length xs
@@ -60,20 +53,14 @@ few_known xs k n h =
     ap (λ z. go_on z few_by) (length_known (codes "array") 4 xs k n (omega arith) h)
 
 few_again : (xs : List ℕ) (v : Bool) (n c : ℕ) → ReadsFew xs v n c → ReadBy few_at xs v n c
-few_again xs false n c p =
-    let h = head_read [] 4 8 xs 0 n (omega arith) p.0 in
-    record { answer = few_known xs 0 n p.0; within = h.1; positive = h.2; cost = p.1 }
-few_again xs true n c p =
-    let h = head_read [] 4 8 xs 1 n (omega arith) p.0 in
-    record { answer = few_known xs 1 n p.0; within = h.1; positive = h.2; cost = p.1 }
+few_again xs false n c p = search (rules, head_read, few_known)
+few_again xs true n c p = search (rules, head_read, few_known)
 
 few_stopped : (xs ys : List ℕ) (budget : Option ℕ) (z : InputError) (n : ℕ) (l : Option ℕ)
     → length_at (codes "array") 4 xs ≡ Ok (l, ys) → few_by l ys ≡ Err (z, drop n xs) → n ≤ length xs
     → IsBytes (take n xs) → RejectsFew xs budget z (drop n xs)
 few_stopped xs ys budget z n None e f within bytes =
-    let o = length_none (codes "array") 4 xs ys e in
-    let p = same_input_error (few_by None ys) refl f in
-    few_indefinite o.0 (sym p.0) (sym p.1 ∙ o.1)
+    search (rules, length_none, same_input_error, few_indefinite)
 few_stopped xs ys budget z n (Some zero) e f within bytes = cc
 few_stopped xs ys budget z n (Some (suc zero)) e f within bytes = cc
 few_stopped xs ys budget z n (Some (suc (suc k))) e f within bytes =
@@ -100,9 +87,7 @@ module _ {V : Type 0} (s : Format V) where
       → NoneRead s.reads (drop i xs) budget → (v : Option V) (n c : ℕ)
       → ReadsMaybe s.reads xs v n c → CostFits c budget → ⊥
   no_item xs i budget head none None n c r fits = two_counts xs n i r.0 head
-  no_item xs i budget head none (Some v) n c r fits =
-      let same = head_one 4 8 xs 1 1 r.before i (omega arith) r.head head in
-      none v r.count c (subst (λ k. s.reads (drop k xs) v r.count c) same.0 r.item) fits
+  no_item xs i budget head none (Some v) n c r fits = search (rules, head_one)
 
   no_few : (xs : List ℕ) (budget : Option ℕ) → NoneRead ReadsFew xs budget
       → (v : Option V) (n c : ℕ) → ReadsMaybe s.reads xs v n c → CostFits c budget → ⊥

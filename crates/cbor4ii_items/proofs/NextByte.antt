@@ -1,6 +1,6 @@
 -- The next byte, and whether another part follows.
-use Rattle.std.proofs.Common.{◌≡◌, ℕ, Option, List, [], ◌∷◌, take, drop, Some, None, Result, Ok}
-use Rattle.std.proofs.Common.{Err, Bool, false, refl, sym, ap, ◌∙◌, subst, IfOk, IfErr}
+use Rattle.std.proofs.Common.{◌≡◌, ℕ, Option, List, [], ◌∷◌, drop, Some, None, Result, Ok}
+use Rattle.std.proofs.Common.{Err, Bool, false, refl, sym, subst, IfOk, IfErr, rules}
 use Rattle.std.specs.Prelude.{not, nat_lt}
 use Rattle.cbor4ii_rw.specs.View.{View}
 use Rattle.cbor4ii_rw.specs.declared.error.DecodeError.{DecodeError}
@@ -22,10 +22,7 @@ use Rattle.cbor4ii_items.specs.Laws.Running.{peek_byte, kept_alike}
 next_read : (name xs : List ℕ) (b n c : ℕ) → ReadsNext xs b n c
     → peek_at name 1 xs ≡ Ok (b, drop n xs)
 next_read name [] b n c h = let e = h.0 in cc
-next_read name (x ∷ xs) b n c h =
-    let e = h.0 in
-    let f : x ≡ b = cc in
-    ap (λ k. Ok (k, x ∷ xs)) f ∙ ap (λ j. Ok (b, drop j (x ∷ xs))) (sym h.1)
+next_read name (x ∷ xs) b n c h = search rules
 
 next_rejected : (name xs : List ℕ) (z : InputError) (ys : List ℕ) → peek_at name 1 xs ≡ Err (z, ys)
     → (xs ≡ []) × (z ≡ eof name (Small 1)) × (ys ≡ [])
@@ -36,18 +33,7 @@ next_rejected name (x ∷ xs) z ys e = cc
 module _ {E : Type 0} (name : List ℕ) {a b : View} where
   pub next_sound : (r : Result ℕ (DecodeError E)) → Runs (peek_at name 1) a b r
       → IfOk r (Sound ReadsNext a b)
-  next_sound (Ok v) p = record {
-    at = λ xs known.
-        let h = p.answers xs known in
-        let q = peek_byte name 1 v xs h.0 h.2 in
-        record {
-          count = 0;
-          cost = 0;
-          read = (ap (take 1) q.1, refl, refl);
-          fits = fits_zero a.budget;
-          left = h.1 ∙ ap Some q.2;
-        };
-  }
+  next_sound (Ok v) p = search (rules, peek_byte, fits_zero)
   next_sound (Err e) p = tt
 
   pub next_complete : (r : Result ℕ (DecodeError E)) → Runs (peek_at name 1) a b r
@@ -63,15 +49,7 @@ module _ {E : Type 0} (name : List ℕ) {a b : View} where
 
   pub next_decodes : (r : Result ℕ (DecodeError E)) → Runs (peek_at name 1) a b r
       → IfErr r (λ e. is_out_of_memory e ≡ false) → Decodes (next_format name) a b r
-  next_decodes r p memory = record {
-    moves = p.moves;
-    progress = λ some. cc;
-    memory = no_memory r memory;
-    sound = next_sound r p;
-    complete = λ exact. next_complete r p;
-    rejects = λ exact. next_rejects r p;
-    begins = next_rejects r p;
-  }
+  next_decodes r p memory = search (rules, no_memory, next_sound, next_complete, next_rejects)
 
 -- ---- whether a part follows
 
@@ -105,16 +83,7 @@ indefinite_complete {a = a} {e = e} none p =
 pub definite_follows : {E : Type 0} {len : Option ℕ} {left : ℕ} {a : View} (more : Bool)
     → len ≡ Some left → more ≡ nat_lt 0 left → Decodes {E = E} (follows_format len) a a (Ok more)
 definite_follows {E = E} {left = left} {a = a} more is says =
-    subst (λ (l : Option ℕ). Decodes {E = E} (follows_format l) a a (Ok more)) (sym is)
-    (ok (follows_format (Some left)) (kept_alike a) (λ some. cc) (record {
-      at = λ xs known. record {
-        count = 0;
-        cost = 0;
-        read = (says, refl, refl);
-        fits = fits_zero a.budget;
-        left = known;
-      };
-    }))
+    search (rules, ok, kept_alike, fits_zero)
 
 pub indefinite_follows : {E : Type 0} {len : Option ℕ} {a b : View} {ended : Bool} (more : Bool)
     → len ≡ None → ended ≡ not more → Decodes {E = E} break_format a b (Ok ended)

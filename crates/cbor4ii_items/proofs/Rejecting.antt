@@ -1,12 +1,11 @@
 -- How a head is rejected.
-use Rattle.std.proofs.Common.{◌≡◌, ◌≢◌, ℕ, ◌+◌, ◌*◌, ◌/◌, ◌%◌, ◌<◌, ◌≤◌, inl, inr, List}
-use Rattle.std.proofs.Common.{[], ◌∷◌, Err, Bool, true, false, refl, sym, ap, ◌∙◌, arith}
-use Rattle.std.proofs.Common.{ltb, leb, lt-ltb, le-leb, eqb, eq-eqb, eqb-true, ltb-false, cond}
+use Rattle.std.proofs.Common.{◌≡◌, ◌≢◌, ℕ, ◌/◌, ◌%◌, ◌<◌, ◌≤◌, inl, inr, List, [], ◌∷◌}
+use Rattle.std.proofs.Common.{Err, Bool, true, false, refl, sym, arith, ltb, lt-ltb}
+use Rattle.std.proofs.Common.{le-leb, eqb, eq-eqb, eqb-true, ltb-false, cond, rules}
 use Rattle.std.proofs.Math.Nat.{pow-le-pow_right}
-use Rattle.cbor4ii_rw.specs.declared.error.Len.TheVariants.{Small}
 use Rattle.cbor4ii_items.specs.Head.{Width, in_first, one as w_one, two, four, eight, byte_count}
 use Rattle.cbor4ii_items.specs.Head.{HeadFits, additional}
-use Rattle.cbor4ii_items.specs.InputError.{InputError, mismatch, eof}
+use Rattle.cbor4ii_items.specs.InputError.{InputError, mismatch}
 use Rattle.cbor4ii_items.specs.Reading.{give, reject, byte_at}
 use Rattle.cbor4ii_items.specs.Laws.Outcome.{same_input_error}
 use Rattle.cbor4ii_items.specs.Heads.{Begins, NotAHead, CutHead, RejectsHead}
@@ -17,16 +16,11 @@ use Rattle.cbor4ii_items.specs.Laws.ReadingHeads.{number_cut}
 
 parts_of : (major width b : ℕ) (wide : Width) (h : Begins major width b wide)
     → (b / 32 ≡ major) × (b % 32 ≡ additional wide h.argument)
-parts_of major width b wide h =
-    let small : additional wide h.argument < 28 = additional-lt h.argument wide h.fits in
-    (omega (arith, h.is, small), omega (arith, h.is, small))
+parts_of major width b wide h = search (rules, additional-lt)
 
 allowed_at : (width i k : ℕ) → i < 28 → argument_size i ≡ k → k ≤ width → allowed_info width i
     ≡ true
-allowed_at width i k lt e le =
-    let s : ltb i 28 ≡ true = lt-ltb i 28 lt in
-    let t : leb k width ≡ true = le-leb k width le in
-    rw (s, e, t) refl
+allowed_at width i k lt e le = search (rules, lt-ltb, le-leb)
 
 -- a width that the head's byte says is allowed
 begun_allowed : (wide : Width) (width i n : ℕ) → 24 ≤ i → i ≡ additional wide n → HeadFits wide n
@@ -42,37 +36,13 @@ cut_at : (name : List ℕ) (major width b : ℕ) (bs : List ℕ) (z : InputError
     → number_on name (argument_size (b % 32)) (argument_size (b % 32)) 0 bs ≡ Err (z, ys)
     → CutHead name major width b bs z ys
 cut_at name major width b bs z ys m lo hi le e =
-    let w = wide_of (b % 32) lo hi in
-    let k = argument_size (b % 32) in
-    let r = number_cut name k k 0 bs z ys e in
-    record {
-      wide = w.wide;
-      begins = record {
-        argument = 0;
-        fits = w.fits 0 (pow-le-pow_right {n = 256} (omega arith)
-            {i = 0} {j = k} (omega arith));
-        allowed = omega (arith, w.count, le);
-        is = two_parts b major m ∙ ap (λ j. 32 * major + j) (sym (w.info 0));
-      };
-      short = omega (arith, r.0, w.count);
-      answer = r.1 ∙ ap (λ j. eof name (Small j)) (sym w.count);
-      left = r.2;
-    }
+    search (rules, wide_of, number_cut, pow-le-pow_right, two_parts)
 
 not_allowed : (name : List ℕ) (major width b : ℕ) (bs : List ℕ) (z : InputError) (ys : List ℕ)
     → 24 ≤ b % 32 → allowed_info width (b % 32) ≡ false
     → reject {V = ℕ} (mismatch name b) bs ≡ Err (z, ys) → NotAHead name major width b bs z ys
 not_allowed name major width b bs z ys lo other e =
-    let p = same_input_error (reject {V = ℕ} (mismatch name b) bs) refl e in
-    record {
-      none = λ wide h.
-          let yes : allowed_info width (b % 32) ≡ true = begun_allowed wide width (b % 32)
-          h.argument lo
-          (parts_of major width b wide h).1 h.fits h.allowed in
-          cc;
-      answer = sym p.0;
-      left = sym p.1;
-    }
+    search (rules, same_input_error, begun_allowed)
 
 argument_rejects : (s t : Bool) (name : List ℕ) (major width b : ℕ) (bs : List ℕ) (z : InputError)
     (ys : List ℕ) → ltb (b % 32) 24 ≡ s → allowed_info width (b % 32) ≡ t → b / 32 ≡ major
@@ -83,30 +53,19 @@ argument_rejects true t name major width b bs z ys es et m e = cc
 argument_rejects false false name major width b bs z ys es et m e =
     inl (not_allowed name major width b bs z ys (ltb-false (b % 32) 24 es) et e)
 argument_rejects false true name major width b bs z ys es et m e =
-    let a = allowed_parts width (b % 32) et in
-    inr (cut_at name major width b bs z ys m (ltb-false (b % 32) 24 es) a.0 a.1 e)
+    search (rules, allowed_parts, inr, cut_at, ltb-false)
 
 other_major : (name : List ℕ) (major width b : ℕ) (bs : List ℕ) (z : InputError) (ys : List ℕ)
     → b / 32 ≢ major → reject {V = ℕ} (mismatch name b) bs ≡ Err (z, ys)
     → NotAHead name major width b bs z ys
-other_major name major width b bs z ys other e =
-    let p = same_input_error (reject {V = ℕ} (mismatch name b) bs) refl e in
-    record {
-      none = λ wide h. other (parts_of major width b wide h).0;
-      answer = sym p.0;
-      left = sym p.1;
-    }
+other_major name major width b bs z ys other e = search (rules, same_input_error)
 
 head_by_rejects : (t : Bool) (name : List ℕ) (major width b : ℕ) (bs : List ℕ) (z : InputError)
     (ys : List ℕ) → eqb (b / 32) major ≡ t
     → cond t (argument_at name width b) (reject (mismatch name b)) bs ≡ Err (z, ys)
     → RejectsHead name major width (b ∷ bs) z ys
-head_by_rejects true name major width b bs z ys h e =
-    argument_rejects (ltb (b % 32) 24)
-    (allowed_info width (b % 32)) name major width b bs z ys refl refl (eqb-true (b / 32) major h) e
-head_by_rejects false name major width b bs z ys h e =
-    inl (other_major name major width b bs z ys (λ same. let t = eq-eqb (b / 32) major same in cc)
-    e)
+head_by_rejects true name major width b bs z ys h e = search (rules, argument_rejects, eqb-true)
+head_by_rejects false name major width b bs z ys h e = search (rules, inl, other_major, eq-eqb)
 
 -- an error of the program is the head's
 pub head_rejects : (name : List ℕ) (major width : ℕ) (xs : List ℕ) (z : InputError) (ys : List ℕ)

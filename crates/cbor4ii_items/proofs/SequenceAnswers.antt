@@ -1,6 +1,6 @@
 -- A sequence under its step.
 use Rattle.std.proofs.Common.{◌≡◌, ℕ, ◌+◌, List, Option, Some, Result, Ok, Err, true, false, refl}
-use Rattle.std.proofs.Common.{sym, ◌∙◌, subst, arith, IfSome}
+use Rattle.std.proofs.Common.{sym, ◌∙◌, subst, arith, IfSome, rules}
 use Rattle.std.specs.declared.alloc.Global.{Global}
 use Rattle.std.specs.declared.vec.Vec.{Vec}
 use Rattle.cbor4ii_rw.specs.View.{View}
@@ -15,7 +15,7 @@ use Rattle.cbor4ii_items.specs.Budget.{CostFits}
 use Rattle.cbor4ii_items.specs.Sequences.{RejectsInside, RejectsSequence, no_step, under_step}
 use Rattle.cbor4ii_items.specs.Sequences.{inside_format, sequence_format}
 use Rattle.cbor4ii_items.specs.Laws.Answering.{if_some}
-use Rattle.cbor4ii_items.specs.Laws.Calls.{rejects_as, err}
+use Rattle.cbor4ii_items.specs.Laws.Calls.{rejects_as}
 use Rattle.cbor4ii_items.specs.Laws.UnderStep.{exact_step, fits_inside, fits_step, moves_stepped}
 use Rattle.cbor4ii_items.specs.Laws.UnderStep.{no_step as none_left, stepped_at}
 
@@ -25,20 +25,7 @@ module _ {P : Type 0} (major : ℕ) (s : Format P) where
       → Moves {V = Vec P Global} {E = E} a b (Err (DepthOverflow name))
       → StepsIn a.budget b.budget false → KeepsAllButBudget a b
       → Decodes {E = E} (sequence_format name.now major s) a b (Err (DepthOverflow name))
-  no_step_left name {a = a} {b = b} moves takes inward =
-      let none = (none_left a.budget b.budget takes).0 in
-      err (sequence_format name.now major s) moves (λ out. cc)
-      (λ xs known. (
-        xs,
-        inward.known ∙ known,
-        record {
-          none = λ is v n c read fits.
-              let f : CostFits c (Some 0) = subst (CostFits c) none fits in
-              omega (arith, read.2, f);
-          rejects = no_step none refl refl;
-          begins = no_step none refl refl;
-        },
-      ))
+  no_step_left name {a = a} {b = b} moves takes inward = search (rules, none_left, no_step)
 
   module _ (name : List ℕ) {a b c d : View} (takes : StepsIn a.budget b.budget true)
       (inward : KeepsAllButBudget a b) (outward : KeepsAllButBudget c d) where

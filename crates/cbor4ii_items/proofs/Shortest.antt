@@ -1,24 +1,21 @@
 -- Shortest heads, and strings after them, are read exactly as they are encoded.
-use Rattle.std.proofs.Common.{◌≡◌, ◌≢◌, ℕ, ◌+◌, ◌-◌, ◌*◌, ◌%◌, ◌<◌, ◌≤◌, inl, inr, List, []}
-use Rattle.std.proofs.Common.{◌∷◌, ◌++◌, length, drop, take, Option, Some, Result, Ok, Err, Bool}
-use Rattle.std.proofs.Common.{true, false, refl, sym, ap, ap₂, ◌∙◌, subst, arith, cond, ltb, leb}
-use Rattle.std.proofs.Common.{eqb, le-ltb, leb-true, eqb-true, eq-eqb, ne_eqb, le-leb}
-use Rattle.std.proofs.Common.{OnOk}
+use Rattle.std.proofs.Common.{◌≡◌, ◌≢◌, ℕ, ◌+◌, ◌-◌, ◌*◌, ◌%◌, ◌<◌, ◌≤◌, inl, inr, List, [], ◌∷◌}
+use Rattle.std.proofs.Common.{◌++◌, length, drop, take, Option, Some, Result, Ok, Err, Bool, true}
+use Rattle.std.proofs.Common.{false, refl, sym, ap, ap₂, ◌∙◌, subst, arith, cond, ltb, leb, eqb}
+use Rattle.std.proofs.Common.{le-ltb, leb-true, eqb-true, eq-eqb, ne_eqb, le-leb, OnOk, rules}
 use Rattle.std.specs.Int.{bytes_high_first}
 use Rattle.std.proofs.lemmas.List.{length-drop, length-take-le, length-take}
 use Rattle.std.specs.declared.vec.Vec.{Vec}
 use Rattle.cbor4ii_rw.specs.View.{View}
 use Rattle.cbor4ii_rw.specs.Reader.{Advances}
 use Rattle.cbor4ii_rw.specs.declared.error.DecodeError.{DecodeError}
-use Rattle.cbor4ii_items.specs.Head.{Width, byte_count}
-use Rattle.cbor4ii_items.specs.Head.{HeadFits, additional, head, indefinite_head, shortest_width}
-use Rattle.cbor4ii_items.specs.Head.{IsBytes}
+use Rattle.cbor4ii_items.specs.Head.{Width, byte_count, HeadFits, additional, head, indefinite_head}
+use Rattle.cbor4ii_items.specs.Head.{shortest_width, IsBytes}
 use Rattle.cbor4ii_items.specs.InputError.{InputError, input_error_of, is_read, is_depth_overflow}
-use Rattle.cbor4ii_items.specs.InputError.{eof}
-use Rattle.cbor4ii_items.specs.InputError.{len_of, not_canonical}
+use Rattle.cbor4ii_items.specs.InputError.{eof, len_of, not_canonical}
 use Rattle.cbor4ii_items.specs.Initial.{info_of}
 use Rattle.cbor4ii_items.specs.Reading.{Reading, give, reject, ◌>=>◌, Runs, peek_at}
-use Rattle.cbor4ii_items.specs.Decoding.{Rejects, Decodes}
+use Rattle.cbor4ii_items.specs.Decoding.{Decodes}
 use Rattle.cbor4ii_items.specs.Laws.Outcome.{same_value, same_input_error}
 use Rattle.cbor4ii_items.specs.Heads.{ReadsHead}
 use Rattle.cbor4ii_items.specs.Laws.Heads.{read_head, head_again, following_head, rest_after_head}
@@ -30,11 +27,9 @@ use Rattle.cbor4ii_items.specs.ReadStrings.{content_on}
 use Rattle.cbor4ii_items.specs.ReadShortest.{is_indefinite_head, shortest_by, shortest_at}
 use Rattle.cbor4ii_items.specs.ReadShortest.{shortest_string_at}
 use Rattle.cbor4ii_items.specs.Shortest.{canonical_name, LacksLength, ReadsShortest}
-use Rattle.cbor4ii_items.specs.Shortest.{RejectsShortest}
-use Rattle.cbor4ii_items.specs.Shortest.{shortest_rejected, shortest_indefinite, too_long}
-use Rattle.cbor4ii_items.specs.Shortest.{ReadsShortestString, RejectsShortestString}
-use Rattle.cbor4ii_items.specs.Shortest.{length_rejected}
-use Rattle.cbor4ii_items.specs.Shortest.{content_cut, shortest_string_format}
+use Rattle.cbor4ii_items.specs.Shortest.{RejectsShortest, shortest_rejected, shortest_indefinite}
+use Rattle.cbor4ii_items.specs.Shortest.{too_long, ReadsShortestString, RejectsShortestString}
+use Rattle.cbor4ii_items.specs.Shortest.{length_rejected, content_cut, shortest_string_format}
 use Rattle.cbor4ii_items.specs.Laws.Calls.{ok}
 use Rattle.cbor4ii_items.specs.Laws.ProgramEnds.{Passed, ok_parts, err_parts, head_leaves}
 use Rattle.cbor4ii_items.specs.Laws.ProgramEnds.{content_inverse}
@@ -43,8 +38,7 @@ use Rattle.cbor4ii_items.specs.Laws.Answering.{SeenAreBytes, seen_of, Found, fit
 use Rattle.cbor4ii_items.specs.Laws.Answering.{complete_by, rejects_by}
 use Rattle.cbor4ii_items.specs.Laws.Arguments.{ReadBy}
 use Rattle.cbor4ii_items.specs.Laws.Running.{as_of, peek_byte, runs_as, runs_then, runs_err}
-use Rattle.cbor4ii_items.specs.Laws.Running.{runs_give}
-use Rattle.cbor4ii_items.specs.Laws.Running.{runs_reject, runs_byte}
+use Rattle.cbor4ii_items.specs.Laws.Running.{runs_give, runs_reject, runs_byte}
 use Rattle.cbor4ii_items.proofs.Leaves.{IsLeaf}
 use Rattle.cbor4ii_items.proofs.Rejecting.{head_rejects}
 use Rattle.cbor4ii_items.proofs.StringsRead.{content_rejected}
@@ -83,11 +77,7 @@ indefinite : (major b : ℕ) → is_indefinite_head major b ≡ true → LacksLe
 indefinite major b e = indefinite_by (leb 2 major) (leb major 5) major b refl refl e
 
 is_indefinite : (major b : ℕ) → LacksLength major b → is_indefinite_head major b ≡ true
-is_indefinite major b h =
-    let s : leb 2 major ≡ true = le-leb 2 major h.0 in
-    let t : leb major 5 ≡ true = le-leb major 5 h.1 in
-    let e : eqb b (indefinite_head major) ≡ true = eq-eqb b (indefinite_head major) h.2 in
-    rw (s, t) e
+is_indefinite major b h = search (rules, le-leb, eq-eqb)
 
 not_indefinite : (major b : ℕ) → is_indefinite_head major b ≡ false → ¬ (LacksLength major b)
 not_indefinite major b e h = let f = is_indefinite major b h in cc
@@ -161,13 +151,7 @@ back_at : (name : List ℕ) (major v : ℕ) (w : Width) (rest ys : List ℕ) →
     → w ≡ shortest_width v → head_at name major 8 (head major v w ++ rest) ≡ Ok (v, ys)
     → shortest_at name major (head major v w ++ rest) ≡ Ok (v, ys)
 back_at name major v w rest ys h s e =
-    let b = 32 * major + additional w v in
-    let low : b % 32 ≡ additional (shortest_width v) v = says major v w h ∙ ap (λ u. additional u v)
-    s in
-    back_from (is_indefinite_head major b) name major b v
-    (bytes_high_first (byte_count w) v ++ rest) ys
-    (not_begun_by (is_indefinite_head major b) major b refl (head_begins_none major v w h)) e
-    (eq-eqb (b % 32) (additional (shortest_width v) v) low)
+    search (rules, says, back_from, not_begun_by, head_begins_none, eq-eqb)
 
 pub shortest_again : (name : List ℕ) (major : ℕ) (xs : List ℕ) (v n c : ℕ)
     → ReadsShortest major xs v n c → ReadBy (shortest_at name major) xs v n c
@@ -237,20 +221,13 @@ pub shortest_rejects : (name : List ℕ) (major : ℕ) (xs : List ℕ) (budget :
     (ys : List ℕ) → shortest_at name major xs ≡ Err (z, ys) → SeenAreBytes xs ys
     → RejectsShortest name major xs budget z ys
 shortest_rejects name major [] budget z ys e seen =
-    let p = same_input_error (shortest_at name major []) refl e in
-    shortest_rejected (λ b bs is. cc) (sym p.0, sym p.1)
+    search (rules, same_input_error, shortest_rejected)
 shortest_rejects name major (b ∷ bs) budget z ys e seen =
     rejects_from (is_indefinite_head major b) name major b bs budget z ys refl seen e
 
 pub shortest_leaf : (name : List ℕ) (major : ℕ)
     → IsLeaf (shortest_at name major) (ReadsShortest major) (RejectsShortest name major)
-shortest_leaf name major = record {
-  means = shortest_means name major;
-  again = shortest_again name major;
-  is_complete = λ xs budget z n e within bytes. shortest_rejects name major xs budget z
-      (drop n xs) e
-      (seen_of xs (drop n xs) n within bytes refl);
-}
+shortest_leaf name major = search (rules, shortest_means, shortest_again, shortest_rejects, seen_of)
 
 -- ---- strings
 
@@ -346,24 +323,9 @@ module _ {E Z : Type 0} (name : List ℕ) (major : ℕ) {a b : View} where
   pub string_decodes : (r : Result (Vec ℕ Z) (DecodeError E))
       → Runs (shortest_string_at name major) a b (items_answer r) → OnOk r (b.bound + 1 ≤ a.bound)
       → Decodes (shortest_string_format name major) a b (items_answer r)
-  string_decodes (Ok v) p progress =
-      ok (shortest_string_format name major) p.moves.by (λ some. progress)
-      (sound_by (ReadsShortestString major)
-      (λ xs ys e seen. string_found name major a.budget xs v.items ys e seen) p)
+  string_decodes (Ok v) p progress = search (rules, ok, sound_by, string_found)
   string_decodes (Err e) p progress =
-      let rejects : Rejects (RejectsShortestString name major) a b e =
-      rejects_by (RejectsShortestString name major)
-      (λ xs z ys f seen. string_rejects name major a.budget xs z ys f seen) p in
-      record {
-        moves = p.moves;
-        progress = λ some. tt;
-        memory = λ out. refl;
-        sound = tt;
-        complete = λ exact. complete_by (ReadsShortestString major)
-            (λ xs v n c h fits. string_again name major xs v n c h) p;
-        rejects = λ exact. rejects;
-        begins = rejects;
-      }
+      search (rules, rejects_by, string_rejects, complete_by, string_again)
 
 -- ---- the calls
 
@@ -371,13 +333,7 @@ module _ {E Z : Type 0} (name : List ℕ) (major : ℕ) {a b : View} where
 pub runs_when : {V E : Type 0} {f g : Reading V} (name : List ℕ) (b : ℕ) {a m c : View}
     {r : Result V (DecodeError E)} → Runs {E = E} (peek_at name 1) a m (Ok b)
     → ((bs : List ℕ) → f (b ∷ bs) ≡ g (b ∷ bs)) → Runs g a c r → Runs f a c r
-runs_when {f = f} {g = g} name b {c = c} {r = r} first same p = record {
-  moves = p.moves;
-  answers = λ xs known.
-      let t = first.answers xs known in
-      let is = peek_byte name 1 b xs t.0 t.2 in
-      as_of (f xs) (g xs) c.known r (ap f is.1 ∙ same is.0 ∙ ap g (sym is.1)) (p.answers xs known);
-}
+runs_when {f = f} {g = g} name b {c = c} {r = r} first same p = search (rules, peek_byte, as_of)
 
 module _ {E : Type 0} (name : List ℕ) (major b : ℕ) {a m : View}
     (first : Runs {E = E} (peek_at name 1) a m (Ok b)) where
@@ -416,18 +372,10 @@ module _ {E : Type 0} (name : List ℕ) (major b : ℕ) {a m : View}
     module _ {n : ℕ} {c : View} (p : Runs {E = E} (head_at name major 8) m c (Ok n)) where
       pub runs_shortest : b % 32 ≡ additional (shortest_width n) n
           → Runs {E = E} (shortest_at name major) a c (Ok n)
-      runs_shortest e =
-          let t : eqb (b % 32) (additional (shortest_width n) n) ≡ true =
-          eq-eqb (b % 32) (additional (shortest_width n) n) e in
-          let here : shortest_by b n ≡ give n = rw t refl in
-          runs_closed (runs_then (shortest_by b) p (runs_as here (runs_give n c)))
+      runs_shortest e = search (rules, eq-eqb, runs_closed, runs_then, runs_as, runs_give)
 
       pub runs_too_long : {e : DecodeError E} → b % 32 ≢ additional (shortest_width n) n
           → input_error_of e ≡ Some Longer → is_read e ≡ false → is_depth_overflow e ≡ false
           → Runs {V = ℕ} (shortest_at name major) a c (Err e)
       runs_too_long other says read depth =
-          let t : eqb (b % 32) (additional (shortest_width n) n) ≡ false =
-          ne_eqb (b % 32) (additional (shortest_width n) n) other in
-          let here : shortest_by b n ≡ reject Longer = rw t refl in
-          runs_closed
-          (runs_then (shortest_by b) p (runs_as here (runs_reject Longer c says read depth)))
+          search (rules, ne_eqb, runs_closed, runs_then, runs_as, runs_reject, says)

@@ -1,6 +1,6 @@
 -- Values that stand whole in what is shown.
-use Rattle.std.proofs.Common.{◌≡◌, ℕ, suc, ◌^◌, ◌≤◌, List, [], ◌++◌, take, drop, Ok, refl}
-use Rattle.std.proofs.Common.{sym, ap, ◌∙◌, subst, arith, w64, length-append, append_assoc}
+use Rattle.std.proofs.Common.{◌≡◌, ℕ, suc, ◌^◌, ◌≤◌, List, [], ◌++◌, take, drop, Ok, refl, sym, ap}
+use Rattle.std.proofs.Common.{◌∙◌, subst, arith, w64, length-append, append_assoc, rules}
 use Rattle.std.specs.Prelude.{ℤ, pos, negsuc, FitsSigned}
 use Rattle.std.proofs.lemmas.Int.{to_z-of_z}
 use Rattle.std.proofs.lemmas.List.{take-append-drop, take-append-le, drop-append-le}
@@ -76,17 +76,8 @@ cast_fits w z small h =
 
 pub cast_is : (w : Width) (z : ℤ) → 2 ^ hbits w ≤ 2 ^ 63 → IsWithin (2 ^ hbits w) z
     → z ≡ to_z w (of_z w (to_z w64 (of_z w64 z)))
-cast_is w z small h =
-    sym (ap (λ y. to_z w (of_z w y)) (wide_is (2 ^ hbits w) z small h)
-    ∙ to_z-of_z w z (within_fits w z h))
+cast_is w z small h = search (rules, wide_is, to_z-of_z, within_fits)
 
 pub shown_as : {V : Type 0} {reads : Reads V} {shown : List ℕ} {v w : V} {n : ℕ} (steps : ℕ)
     → v ≡ w → IsShownLeaf reads shown 0 (v, n) → IsShownLeaf reads shown steps (w, n)
-shown_as {reads = reads} {shown = shown} {n = n} steps e h =
-    subst (λ v. IsShownLeaf reads shown steps (v, n)) e (record {
-      some = h.some;
-      within = h.within;
-      cost = h.cost;
-      fits = omega (arith, h.fits);
-      read = h.read;
-    })
+shown_as {reads = reads} {shown = shown} {n = n} steps e h = search rules

@@ -1,11 +1,10 @@
 -- Signed integers of at most eight bytes.
-use Rattle.std.proofs.Common.{◌≡◌, ◌≢◌, ℕ, ◌/◌, ◌<◌, ◌≤◌, ◌⊎◌, inl, inr, List, [], ◌∷◌, length}
-use Rattle.std.proofs.Common.{drop, take, Ok, Err, Bool, true, false, refl, sym, ap, ◌∙◌, subst}
-use Rattle.std.proofs.Common.{arith, cond, eqb, eqb-true, eq-eqb}
+use Rattle.std.proofs.Common.{◌≡◌, ℕ, ◌/◌, ◌<◌, ◌≤◌, inl, inr, List, [], ◌∷◌, length, drop}
+use Rattle.std.proofs.Common.{take, Ok, Err, Bool, true, false, refl, sym, ap, ◌∙◌, subst}
+use Rattle.std.proofs.Common.{cond, eqb, eqb-true, eq-eqb, rules}
 use Rattle.std.specs.Prelude.{ℤ, pos, negsuc}
 use Rattle.cbor4ii_items.specs.Head.{IsBytes}
-use Rattle.cbor4ii_rw.specs.declared.error.Len.TheVariants.{Small}
-use Rattle.cbor4ii_items.specs.InputError.{InputError, eof, mismatch}
+use Rattle.cbor4ii_items.specs.InputError.{InputError, mismatch}
 use Rattle.cbor4ii_items.specs.Reading.{Reading, reject, go_on, ◌>=>◌}
 use Rattle.cbor4ii_items.specs.Heads.{ReadsHead}
 use Rattle.cbor4ii_items.specs.ReadHead.{head_at}
@@ -19,55 +18,39 @@ use Rattle.cbor4ii_items.specs.Laws.Outcome.{same_value, same_input_error}
 use Rattle.cbor4ii_items.specs.Laws.Signed.{signed_again}
 use Rattle.cbor4ii_items.proofs.Leaves.{IsLeaf}
 use Rattle.cbor4ii_items.proofs.Rejecting.{head_rejects}
-use Rattle.cbor4ii_items.specs.Laws.ProgramEnds.{ok_parts, err_parts, ErrParts}
+use Rattle.cbor4ii_items.specs.Laws.ProgramEnds.{ok_parts, err_parts}
 use Rattle.cbor4ii_items.proofs.BelowLimit.{below_ok, below_err}
 
 head_below_means : (name : List ℕ) (major width limit : ℕ) (xs : List ℕ) (k n : ℕ)
     → head_below_at name major width limit xs ≡ Ok (k, drop n xs) → n ≤ length xs
     → IsBytes (take n xs) → ReadsHead major width xs k n × (k < limit)
 head_below_means name major width limit xs k n e within bytes =
-    let h = ok_parts (head_at name major width xs) (below name limit) k (drop n xs) e in
-    let b = below_ok name limit h.value k h.rest (drop n xs) h.ended in
-    let whole : head_at name major width xs ≡ Ok (k, drop n xs) =
-    h.begun ∙ (ap (λ (j : ℕ). Ok (j, h.rest)) b.0 ∙ ap (λ (zs : List ℕ). Ok (k, zs)) b.1) in
-    (read_head name major width xs k n whole within bytes, omega (arith, b.0, b.2))
-
-half_parts : (name : List ℕ) (major width limit : ℕ) (xs : List ℕ) (z : InputError) (n : ℕ)
-    → n ≤ length xs → IsBytes (take n xs) → (head_at name major width xs ≡ Err (z, drop n xs))
-    ⊎ ErrParts (head_at name major width xs) (below name limit) z (drop n xs)
-    → RejectsHalf name major width limit xs z (drop n xs)
-half_parts name major width limit xs z n within bytes (inl e) =
-    head_rejected (head_rejects name major width xs z (drop n xs) e)
-half_parts name major width limit xs z n within bytes (inr h) =
-    let b = below_err name limit h.value z h.rest (drop n xs) h.ended in
-    let whole : head_at name major width xs ≡ Ok (h.value, drop n xs) =
-    h.begun ∙ ap (λ (zs : List ℕ). Ok (h.value, zs)) b.1 in
-    argument_too_great h.value n (read_head name major width xs h.value n whole within bytes) b.2
-    (sym b.0) refl
+    search (rules, ok_parts, below_ok, read_head)
 
 head_below_rejects : (name : List ℕ) (major width limit : ℕ) (xs : List ℕ) (z : InputError) (n : ℕ)
     → head_below_at name major width limit xs ≡ Err (z, drop n xs) → n ≤ length xs
     → IsBytes (take n xs) → RejectsHalf name major width limit xs z (drop n xs)
 head_below_rejects name major width limit xs z n e within bytes =
-    half_parts name major width limit xs z n within bytes
-    (err_parts (head_at name major width xs) (below name limit) z (drop n xs) e)
+    elim (err_parts (head_at name major width xs) (below name limit) z (drop n xs) e) [
+      | inl f ↦ head_rejected (head_rejects name major width xs z (drop n xs) f)
+      | inr h ↦
+          (let b = below_err name limit h.value z h.rest (drop n xs) h.ended in
+          let whole : head_at name major width xs ≡ Ok (h.value, drop n xs) =
+          h.begun ∙ ap (λ (zs : List ℕ). Ok (h.value, zs)) b.1 in
+          argument_too_great h.value n (read_head name major width xs h.value n whole within bytes)
+          b.2 (sym b.0) refl)
+    ]
 
 -- a number that only gets its sign is rejected by its first part
 pub sign_rejected : {V : Type 0} (f : Reading ℕ) (sign : ℕ → V) (xs : List ℕ) (z : InputError)
     (ys : List ℕ) → go_on (f xs) (λ k zs. Ok (sign k, zs)) ≡ Err (z, ys) → f xs ≡ Err (z, ys)
-sign_rejected f sign xs z ys e = elim (err_parts (f xs) (λ k zs. Ok (sign k, zs)) z ys e) [
-  | inl h ↦ h
-  | inr h ↦ (let g = h.ended in cc)
-]
+sign_rejected f sign xs z ys e = search (rules, err_parts, inl, inr)
 
 -- and is the first part's with the sign
 pub sign_given : {V : Type 0} (f : Reading ℕ) (sign : ℕ → V) (xs : List ℕ) (v : V) (ys : List ℕ)
     → go_on (f xs) (λ k zs. Ok (sign k, zs)) ≡ Ok (v, ys)
     → (k : ℕ) × (sign k ≡ v) × (f xs ≡ Ok (k, ys))
-sign_given f sign xs v ys e =
-    let h = ok_parts (f xs) (λ k zs. Ok (sign k, zs)) v ys e in
-    let p = same_value (Ok (sign h.value, h.rest)) refl h.ended in
-    (h.value, p.0, h.begun ∙ ap (λ (zs : List ℕ). Ok (h.value, zs)) p.1)
+sign_given f sign xs v ys e = search (rules, ok_parts, same_value)
 
 module _ (name plus minus : List ℕ) (width limit : ℕ) where
   signed_means_by : (s t : Bool) (b : ℕ) (bs : List ℕ) (v : ℤ) (n : ℕ) → n ≤ length (b ∷ bs)
@@ -94,10 +77,7 @@ module _ (name plus minus : List ℕ) (width limit : ℕ) where
       signed_means_by (eqb (b / 32) 0) (eqb (b / 32) 1) b bs v n within bytes e
 
   two_or_more : (b : ℕ) → eqb (b / 32) 0 ≡ false → eqb (b / 32) 1 ≡ false → 2 ≤ b / 32
-  two_or_more b p q =
-      let r : b / 32 ≢ 0 = λ h. (let t = eq-eqb (b / 32) 0 h in cc) in
-      let s : b / 32 ≢ 1 = λ h. (let t = eq-eqb (b / 32) 1 h in cc) in
-      omega arith
+  two_or_more b p q = search (rules, eq-eqb)
 
   signed_rejects_by : (s t : Bool) (b : ℕ) (bs : List ℕ) (z : InputError) (n : ℕ) → eqb
       (b / 32) 0 ≡ s
@@ -121,16 +101,10 @@ module _ (name plus minus : List ℕ) (width limit : ℕ) where
   signed_rejects : (xs : List ℕ) (z : InputError) (n : ℕ)
       → signed_at name plus minus width limit xs ≡ Err (z, drop n xs) → n ≤ length xs
       → IsBytes (take n xs) → RejectsSigned name plus minus width limit xs z (drop n xs)
-  signed_rejects [] z n e within bytes =
-      let r = same_input_error {V = ℤ} (Err (eof name (Small 1), [])) refl e in
-      no_signed_byte refl (sym r.0) (sym r.1)
+  signed_rejects [] z n e within bytes = search (rules, same_input_error, no_signed_byte)
   signed_rejects (b ∷ bs) z n e within bytes =
       signed_rejects_by (eqb (b / 32) 0) (eqb (b / 32) 1) b bs z n refl refl within bytes e
 
   pub signed_leaf : IsLeaf (signed_at name plus minus width limit) (ReadsSigned width limit)
       (λ xs budget. RejectsSigned name plus minus width limit xs)
-  signed_leaf = record {
-    means = signed_means;
-    again = signed_again name plus minus width limit;
-    is_complete = λ xs budget. signed_rejects xs;
-  }
+  signed_leaf = search (rules, signed_means, signed_again, signed_rejects)

@@ -1,20 +1,20 @@
 -- What a call that follows a program answers.
-use Rattle.std.proofs.Common.{◌≡◌, ℕ, ◌<◌, List, drop, Option, None, Some, Result, Ok, Err, refl}
-use Rattle.std.proofs.Common.{subst, ap, IfSome, OnOk, ◌+◌, ◌≤◌}
+use Rattle.std.proofs.Common.{◌≡◌, ℕ, ◌<◌, List, drop, Result, Ok, Err, refl, subst, ap, OnOk, ◌+◌}
+use Rattle.std.proofs.Common.{◌≤◌, rules}
 use Rattle.std.specs.Prelude.{IsUtf8}
 use Rattle.std.specs.declared.vec.Vec.{Vec}
 use Rattle.cbor4ii_rw.specs.View.{View}
 use Rattle.cbor4ii_rw.specs.declared.error.DecodeError.{DecodeError}
 use Rattle.cbor4ii_rw.specs.declared.error.DecodeError.TheVariants.{RequireUtf8}
 use denote.Ref.{Bor}
-use Rattle.cbor4ii_items.specs.InputError.{InputError, input_error_of, require_utf8}
+use Rattle.cbor4ii_items.specs.InputError.{input_error_of, require_utf8}
 use Rattle.cbor4ii_items.specs.Decoding.{Sound, Complete, Rejects, Decodes}
 use Rattle.cbor4ii_items.specs.Reading.{Runs}
 use Rattle.cbor4ii_items.specs.Contents.{items_answer}
 use Rattle.cbor4ii_items.specs.ReadStrings.{string_at}
 use Rattle.cbor4ii_items.specs.Strings.{ReadsString, ReadsTextAs, RejectsString, RejectsText}
 use Rattle.cbor4ii_items.specs.Strings.{no_string, no_utf8, string_format, text_format}
-use Rattle.cbor4ii_items.specs.Laws.Calls.{ok}
+use Rattle.cbor4ii_items.specs.Laws.Calls.{ok, rejects_as}
 use Rattle.cbor4ii_items.specs.Laws.Steps.{moves_err}
 use Rattle.cbor4ii_items.specs.Laws.Strings.{string_again, string_one, three_small}
 use Rattle.cbor4ii_items.specs.Laws.Answering.{complete_as, sound_by, complete_by, rejects_by}
@@ -23,41 +23,14 @@ use Rattle.cbor4ii_items.proofs.StringsRead.{string_read, string_rejects}
 -- ---- strings
 
 module _ {E : Type 0} (name : List ℕ) (major : ℕ) {a b : View} where
-  pub content_sound : {items : List ℕ} → Runs {E = E} (string_at name major a.budget) a b (Ok items)
-      → Sound (ReadsString major) a b items
-  content_sound {items = items} p =
-      sound_by (ReadsString major)
-      (λ xs ys e seen. string_read name major a.budget xs items ys e seen) p
-
-  pub content_complete : {e : DecodeError E} → major < 8 → Runs {V = List ℕ}
-      (string_at name major a.budget) a b (Err e) → Complete (ReadsString major) a e
-  content_complete m p =
-      complete_by (ReadsString major)
-      (λ xs v n c h fits. string_again name major a.budget xs v n c m h fits) p
-
-  pub content_rejects : {e : DecodeError E} → Runs {V = List ℕ}
-      (string_at name major a.budget) a b (Err e) → Rejects (RejectsString name major) a b e
-  content_rejects p =
-      rejects_by (RejectsString name major)
-      (λ xs z ys f seen. string_rejects name major a.budget xs z ys f seen) p
-
   pub content_ok : {items : List ℕ} → b.bound + 1 ≤ a.bound
       → Runs {E = E} (string_at name major a.budget) a b (Ok items)
       → Decodes {E = E} (string_format name major) a b (Ok items)
-  content_ok progress p =
-      ok (string_format name major) p.moves.by (λ some. progress) (content_sound p)
+  content_ok {items = items} progress p = search (rules, ok, sound_by, string_read)
 
   pub content_err : {e : DecodeError E} → major < 8 → Runs {V = List ℕ}
       (string_at name major a.budget) a b (Err e) → Decodes (string_format name major) a b (Err e)
-  content_err m p = record {
-    moves = p.moves;
-    progress = λ some. tt;
-    memory = λ out. refl;
-    sound = tt;
-    complete = λ exact. content_complete m p;
-    rejects = λ exact. content_rejects p;
-    begins = content_rejects p;
-  }
+  content_err m p = search (rules, rejects_by, string_rejects, complete_by, string_again)
 
   pub string_decodes : {Z : Type 0} (r : Result (Vec ℕ Z) (DecodeError E)) → major < 8
       → Runs (string_at name major a.budget) a b (items_answer r) → OnOk r (b.bound + 1 ≤ a.bound)
@@ -82,12 +55,6 @@ module _ {V : Type 0} (content : V → List ℕ) where
         };
   }
 
-  text_complete : {E : Type 0} {e : DecodeError E} {a : View} → Complete (ReadsString 3) a e
-      → Complete (ReadsTextAs content) a e
-  text_complete p =
-      complete_as (ReadsString 3) (ReadsTextAs content)
-      (λ xs budget none v n c h. none (content v) n c h.0) p
-
   -- a content that is not UTF-8
   utf8_complete : {E : Type 0} {name : Bor (List ℕ)} {items : List ℕ} {a b : View}
       → (IsUtf8 items → ⊥) → Sound (ReadsString 3) a b items
@@ -99,16 +66,12 @@ module _ {V : Type 0} (content : V → List ℕ) where
         t.read).2 h.1);
   }
 
-still : (name xs : List ℕ) (budget : Option ℕ) (left : Option (List ℕ)) (o : Option InputError)
-    → IfSome o (λ z. (ys : List ℕ) × (left ≡ Some ys) × RejectsString name 3 xs budget z ys)
-    → IfSome o (λ z. (ys : List ℕ) × (left ≡ Some ys) × RejectsText name xs budget z ys)
-still name xs budget left None h = tt
-still name xs budget left (Some z) h = (h.0, h.1, no_string h.2)
-
 text_rejects : {E : Type 0} {name : List ℕ} {e : DecodeError E} {a b : View}
     → Rejects (RejectsString name 3) a b e → Rejects (RejectsText name) a b e
-text_rejects {name = name} {e = e} {a = a} {b = b} p =
-    record { at = λ xs known. still name xs a.budget b.known (input_error_of e) (p.at xs known) }
+text_rejects {name = name} {e = e} {a = a} {b = b} p = record {
+  at = λ xs known. rejects_as (input_error_of e) b.known (RejectsString name 3 xs a.budget)
+      (RejectsText name xs a.budget) (λ z ys. no_string) (p.at xs known);
+}
 
 utf8_rejects : {E : Type 0} {name : List ℕ} {found : Bor (List ℕ)} {items : List ℕ} {a b : View}
     → found.now ≡ name → (IsUtf8 items → ⊥) → Sound (ReadsString 3) a b items
@@ -136,7 +99,8 @@ module _ {V E : Type 0} (name : List ℕ) (content : V → List ℕ) {a b : View
     progress = λ some. tt;
     memory = λ out. refl;
     sound = tt;
-    complete = λ exact. text_complete content (d.complete exact);
+    complete = λ exact. complete_as (ReadsString 3) (ReadsTextAs content)
+        (λ xs budget none v n c h. none (content v) n c h.0) (d.complete exact);
     rejects = λ exact. text_rejects (d.rejects exact);
     begins = text_rejects d.begins;
   }

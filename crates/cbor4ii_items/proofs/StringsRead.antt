@@ -2,18 +2,17 @@
 use Rattle.std.proofs.Common.{◌≡◌, ◌≢◌, ℕ, zero, suc, ◌+◌, ◌-◌, ◌<◌, ◌≤◌, inl, inr, List, [], ◌∷◌}
 use Rattle.std.proofs.Common.{◌++◌, length, drop, take, Option, None, Some, Result, Ok, Err, Bool}
 use Rattle.std.proofs.Common.{true, false, refl, sym, ap, ap₂, ◌∙◌, subst, arith, eqb, ltb}
-use Rattle.std.proofs.Common.{ltb-true, append_assoc, cond}
+use Rattle.std.proofs.Common.{ltb-true, append_assoc, cond, rules}
 use Rattle.std.proofs.lemmas.List.{length-drop, append-nil, length-take-le}
 use Rattle.std.proofs.Math.Seq.{take-add}
-use Rattle.cbor4ii_rw.specs.declared.error.Len.TheVariants.{Indefinite}
 use Rattle.cbor4ii_items.specs.Head.{break, indefinite_head, IsBytes}
-use Rattle.cbor4ii_items.specs.InputError.{InputError, eof, require_length, depth_overflow, len_of}
-use Rattle.cbor4ii_items.specs.Reading.{Reading, give, reject, go_on, ◌>=>◌}
+use Rattle.cbor4ii_items.specs.InputError.{InputError, eof, len_of}
+use Rattle.cbor4ii_items.specs.Reading.{Reading, give, go_on, ◌>=>◌}
 use Rattle.cbor4ii_items.specs.Budget.{CostFits}
 use Rattle.cbor4ii_items.specs.Laws.Outcome.{same_value, same_input_error}
 use Rattle.cbor4ii_items.specs.Heads.{ReadsHead, RejectsHead}
 use Rattle.cbor4ii_items.specs.Laws.Heads.{read_head}
-use Rattle.cbor4ii_items.specs.ReadHead.{head_at, head_by, length_at}
+use Rattle.cbor4ii_items.specs.ReadHead.{head_by, length_at}
 use Rattle.cbor4ii_items.specs.ReadStrings.{content_on, break_at, chunk_by, chunk_inside_at}
 use Rattle.cbor4ii_items.specs.ReadStrings.{chunk_at, chunks_on, string_by, string_at}
 use Rattle.cbor4ii_items.specs.Laws.ProgramEnds.{ok_parts, err_parts, length_passed, length_some}
@@ -22,13 +21,10 @@ use Rattle.cbor4ii_items.specs.Laws.ProgramEnds.{break_rejected, chunk_passed, n
 use Rattle.cbor4ii_items.specs.Laws.Chunks.{chunks_by}
 use Rattle.cbor4ii_items.specs.Laws.Prefixes.{drop_more}
 use Rattle.cbor4ii_items.specs.Strings.{ReadsDefiniteString, ReadsChunks, joined_content}
-use Rattle.cbor4ii_items.specs.Strings.{chunk_cost}
-use Rattle.cbor4ii_items.specs.Strings.{ReadsString, CutContent, RejectsChunk, no_chunk_byte}
-use Rattle.cbor4ii_items.specs.Strings.{no_step}
-use Rattle.cbor4ii_items.specs.Strings.{chunk_indefinite, chunk_rejected, chunk_cut}
-use Rattle.cbor4ii_items.specs.Strings.{RejectsIndefinite}
-use Rattle.cbor4ii_items.specs.Strings.{RejectsString, string_head_rejected, string_cut}
-use Rattle.cbor4ii_items.specs.Strings.{string_indefinite}
+use Rattle.cbor4ii_items.specs.Strings.{chunk_cost, ReadsString, CutContent, RejectsChunk}
+use Rattle.cbor4ii_items.specs.Strings.{no_chunk_byte, no_step, chunk_indefinite, chunk_rejected}
+use Rattle.cbor4ii_items.specs.Strings.{chunk_cut, RejectsIndefinite, RejectsString}
+use Rattle.cbor4ii_items.specs.Strings.{string_head_rejected, string_cut, string_indefinite}
 use Rattle.cbor4ii_items.specs.Laws.Strings.{BeginsWith, HasStep}
 use Rattle.cbor4ii_items.specs.Laws.Answering.{SeenAreBytes, Found, fits_zero}
 use Rattle.cbor4ii_items.specs.Laws.Contents.{IsBytes-append}
@@ -52,79 +48,12 @@ record KnownLength (major k : ℕ) (xs us : List ℕ) : Type 0 where
   left : us ≡ drop before xs
   within : before ≤ length xs
 
-known_length : (name : List ℕ) (major k : ℕ) (xs us ys : List ℕ)
-    → length_at name major xs ≡ Ok (Some k, us) → length ys ≤ length us → SeenAreBytes xs ys
-    → KnownLength major k xs us
-known_length name major k xs us ys e short seen =
-    let p = (length_passed name major (Some k) xs us e).0 in
-    let i = p.count in
-    let a : head_at name major 8 xs ≡ Ok (k, drop i xs) =
-    length_some name major k xs us e ∙ ap (λ (zs : List ℕ). Ok (k, zs)) p.left in
-    record {
-      before = i;
-      head =
-          read_head name major 8 xs k i a p.within
-          (seen i (omega (arith, p.within, short, ap length p.left, length-drop i xs)));
-      left = p.left;
-      within = p.within;
-    }
-
--- ---- strings of definite length
-
 record DefiniteFound (major : ℕ) (before xs v ys : List ℕ) : Type 0 where
   part : List ℕ
   size : ℕ
   read : ReadsDefiniteString major xs part size
   value : v ≡ before ++ part
   left : ys ≡ drop size xs
-
-known_read : (name before : List ℕ) (major k : ℕ) (xs us v ys : List ℕ)
-    → length_at name major xs ≡ Ok (Some k, us) → content_on name k before us ≡ Ok (v, ys)
-    → SeenAreBytes xs ys → DefiniteFound major before xs v ys
-known_read name before major k xs us v ys e f seen =
-    let c = content_inverse name k before us v ys f in
-    let h = known_length name major k xs us ys e (omega (arith, ap length c.2, length-drop k us))
-    seen in
-    let part = take k us in
-    let long : length part ≡ k = length-take-le k us c.0 in
-    record {
-      part = part;
-      size = h.before + k;
-      read = record {
-        before = h.before;
-        head = subst (λ j. ReadsHead major 8 xs j h.before) (sym long) h.head;
-        stands = ap₂ take long (sym h.left);
-        size = ap (λ j. h.before + j) (sym long);
-      };
-      value = c.1;
-      left = c.2 ∙ (ap (drop k) h.left ∙ drop_more k h.before xs);
-    }
-
-inside_by : (name before : List ℕ) (major : ℕ) (l : Option ℕ) (xs us v ys : List ℕ)
-    → length_at name major xs ≡ Ok (l, us) → chunk_by name before l us ≡ Ok (v, ys)
-    → SeenAreBytes xs ys
-    → DefiniteFound major before xs v ys
-inside_by name before major None xs us v ys e f seen = cc
-inside_by name before major (Some k) xs us v ys e f seen =
-    known_read name before major k xs us v ys e f seen
-
-inside_read : (name before : List ℕ) (major : ℕ) (xs v ys : List ℕ)
-    → chunk_inside_at name major before xs ≡ Ok (v, ys) → SeenAreBytes xs ys
-    → DefiniteFound major before xs v ys
-inside_read name before major xs v ys e seen =
-    let g = ok_parts (length_at name major xs) (chunk_by name before) v ys e in
-    inside_by name before major g.value xs g.rest v ys g.begun g.ended seen
-
-chunk_read : (name before : List ℕ) (major : ℕ) (budget : Option ℕ) (xs v ys : List ℕ)
-    → chunk_at name major budget before xs ≡ Ok (v, ys) → SeenAreBytes xs ys
-    → DefiniteFound major before xs v ys × HasStep budget
-chunk_read name before major None xs v ys e seen =
-    (inside_read name before major xs v ys e seen, tt)
-chunk_read name before major (Some zero) xs v ys e seen = cc
-chunk_read name before major (Some (suc left)) xs v ys e seen =
-    (inside_read name before major xs v ys e seen, omega arith)
-
--- ---- chunks
 
 record ChunksFound (major : ℕ) (budget : Option ℕ) (before xs v ys : List ℕ) : Type 0 where
   chunks : List (List ℕ)
@@ -135,133 +64,169 @@ record ChunksFound (major : ℕ) (budget : Option ℕ) (before xs v ys : List �
   left : ys ≡ drop (1 + between) xs
   fits : CostFits (chunk_cost chunks) budget
 
-ended_found : (major : ℕ) (budget : Option ℕ) (before xs us v ys : List ℕ)
-    → break_at xs ≡ Ok (true, us) → give before us ≡ Ok (v, ys)
-    → ChunksFound major budget before xs v ys
-ended_found major budget before xs us v ys e f =
-    let b = break_yes xs us e in
-    let p = same_value (give before us) refl f in
-    record {
-      chunks = [];
-      between = 0;
-      read = refl;
-      ends = b.0;
-      value = sym p.0 ∙ sym (append-nil before);
-      left = sym p.1 ∙ b.1;
-      fits = fits_zero budget;
-    }
+known_length : (name : List ℕ) (major k : ℕ) (xs us ys : List ℕ)
+    → length_at name major xs ≡ Ok (Some k, us) → length ys ≤ length us → SeenAreBytes xs ys
+    → KnownLength major k xs us
+known_length name major k xs us ys e short seen =
+    search (rules, length_passed, length_some, read_head, length-drop)
 
-chunk_found : (name : List ℕ) (major : ℕ) (budget : Option ℕ) (before more xs zs v ys : List ℕ)
-    → chunk_at name major budget before xs ≡ Ok (more, zs)
-    → (SeenAreBytes zs ys → ChunksFound major budget more zs v ys) → SeenAreBytes xs ys
-    → ChunksFound major budget before xs v ys
-chunk_found name major budget before more xs zs v ys e next seen =
-    let p = (chunk_passed name major budget before xs more zs e).0 in
-    let r = next (subst (λ (us : List ℕ). SeenAreBytes us ys) (sym p.left)
-    (seen_after p.count xs ys p.within seen)) in
-    let c = chunk_read name before major budget xs more zs e (seen_more xs ys zs
-    (omega (arith, ap length r.left, length-drop (1 + r.between) zs)) seen) in
-    let f = c.0 in
-    record {
-      chunks = f.part ∷ r.chunks;
-      between = f.size + r.between;
-      read = (
-        f.size,
-        r.between,
-        f.read,
-        subst (λ us. ReadsChunks major r.chunks us r.between) f.left r.read,
-        refl,
-      );
-      ends =
-          ap (take 1) (sym (drop_more r.between f.size xs) ∙ ap (drop r.between) (sym f.left))
-          ∙ r.ends;
-      value =
-          r.value ∙ (ap (λ us. us ++ joined_content r.chunks) f.value
-          ∙ append_assoc before f.part (joined_content r.chunks));
-      left =
-          r.left ∙ (ap (drop (1 + r.between)) f.left
-          ∙ (drop_more (1 + r.between) f.size xs ∙ ap (λ j. drop j xs) (let
-          e : f.size + (1 + r.between) ≡ 1 + (f.size + r.between) = omega arith in e)));
-      fits = c.1;
-    }
+-- ---- strings of definite length
 
-by_ended : (name : List ℕ) (major : ℕ) (budget : Option ℕ) (before xs us v ys : List ℕ)
-    (next : List ℕ → Reading (List ℕ))
-    → ((more zs : List ℕ) → length zs < length xs → next more zs ≡ Ok (v, ys) → SeenAreBytes zs ys
-    → ChunksFound major budget more zs v ys)
-    → (ended : Bool) → break_at xs ≡ Ok (ended, us)
-    → chunks_by name major budget before next ended us ≡ Ok (v, ys) → SeenAreBytes xs ys
-    → ChunksFound major budget before xs v ys
-by_ended name major budget before xs us v ys next h true e f seen =
-    ended_found major budget before xs us v ys e f
-by_ended name major budget before xs us v ys next h false e f seen =
-    let same : us ≡ xs = (break_no xs us e).2 in
-    let g = ok_parts (chunk_at name major budget before us) next v ys f in
-    let here : chunk_at name major budget before xs ≡ Ok (g.value, g.rest) =
-    ap (chunk_at name major budget before) (sym same) ∙ g.begun in
-    chunk_found name major budget before g.value xs g.rest v ys here (h g.value g.rest
-    (chunk_passed name major budget before xs g.value g.rest here).1 g.ended) seen
+module _ (name : List ℕ) (major : ℕ) where
+  known_read : (before : List ℕ) (k : ℕ) (xs us v ys : List ℕ)
+      → length_at name major xs ≡ Ok (Some k, us) → content_on name k before us ≡ Ok (v, ys)
+      → SeenAreBytes xs ys → DefiniteFound major before xs v ys
+  known_read before k xs us v ys e f seen =
+      let c = content_inverse name k before us v ys f in
+      let h = known_length name major k xs us ys e
+      (omega (arith, ap length c.2, length-drop k us)) seen in
+      let part = take k us in
+      let long : length part ≡ k = length-take-le k us c.0 in
+      record {
+        part = part;
+        size = h.before + k;
+        read = record {
+          before = h.before;
+          head = subst (λ j. ReadsHead major 8 xs j h.before) (sym long) h.head;
+          stands = ap₂ take long (sym h.left);
+          size = ap (λ j. h.before + j) (sym long);
+        };
+        value = c.1;
+        left = c.2 ∙ (ap (drop k) h.left ∙ drop_more k h.before xs);
+      }
 
-chunks_read : (f : ℕ) (name : List ℕ) (major : ℕ) (budget : Option ℕ) (before xs v ys : List ℕ)
-    → length xs < f → chunks_on f name major budget before xs ≡ Ok (v, ys) → SeenAreBytes xs ys
-    → ChunksFound major budget before xs v ys
-chunks_read zero name major budget before xs v ys h e seen = absurd (omega (arith, h))
-chunks_read (suc f) name major budget before xs v ys h e seen =
-    let g = ok_parts (break_at xs)
-    (chunks_by name major budget before (chunks_on f name major budget)) v ys e in
-    by_ended name major budget before xs g.rest v ys (chunks_on f name major budget)
-    (λ more zs short k there. chunks_read f name major budget more zs v ys
-    (omega (arith, h, short)) k there) g.value g.begun g.ended seen
+  inside_by : (before : List ℕ) (l : Option ℕ) (xs us v ys : List ℕ)
+      → length_at name major xs ≡ Ok (l, us) → chunk_by name before l us ≡ Ok (v, ys)
+      → SeenAreBytes xs ys → DefiniteFound major before xs v ys
+  inside_by before None xs us v ys e f seen = cc
+  inside_by before (Some k) xs us v ys e f seen = known_read before k xs us v ys e f seen
+
+  inside_read : (before xs v ys : List ℕ) → chunk_inside_at name major before xs ≡ Ok (v, ys)
+      → SeenAreBytes xs ys → DefiniteFound major before xs v ys
+  inside_read before xs v ys e seen =
+      let g = ok_parts (length_at name major xs) (chunk_by name before) v ys e in
+      inside_by before g.value xs g.rest v ys g.begun g.ended seen
+
+  chunk_read : (budget : Option ℕ) (before xs v ys : List ℕ)
+      → chunk_at name major budget before xs ≡ Ok (v, ys) → SeenAreBytes xs ys
+      → DefiniteFound major before xs v ys × HasStep budget
+  chunk_read None before xs v ys e seen = (inside_read before xs v ys e seen, tt)
+  chunk_read (Some zero) before xs v ys e seen = cc
+  chunk_read (Some (suc left)) before xs v ys e seen =
+      (inside_read before xs v ys e seen, omega arith)
+
+-- ---- chunks
+
+module _ (name : List ℕ) (major : ℕ) (budget : Option ℕ) (v ys : List ℕ) where
+  ended_found : (before xs us : List ℕ) → break_at xs ≡ Ok (true, us)
+      → give before us ≡ Ok (v, ys) → ChunksFound major budget before xs v ys
+  ended_found before xs us e f = search (rules, break_yes, same_value, append-nil, fits_zero)
+
+  chunk_found : (before more xs zs : List ℕ) → chunk_at name major budget before xs ≡ Ok (more, zs)
+      → (SeenAreBytes zs ys → ChunksFound major budget more zs v ys) → SeenAreBytes xs ys
+      → ChunksFound major budget before xs v ys
+  chunk_found before more xs zs e next seen =
+      let p = (chunk_passed name major budget before xs more zs e).0 in
+      let r = next (subst (λ (us : List ℕ). SeenAreBytes us ys) (sym p.left)
+      (seen_after p.count xs ys p.within seen)) in
+      let c = chunk_read name major budget before xs more zs e (seen_more xs ys zs
+      (omega (arith, ap length r.left, length-drop (1 + r.between) zs)) seen) in
+      let f = c.0 in
+      record {
+        chunks = f.part ∷ r.chunks;
+        between = f.size + r.between;
+        read = (
+          f.size,
+          r.between,
+          f.read,
+          subst (λ us. ReadsChunks major r.chunks us r.between) f.left r.read,
+          refl,
+        );
+        ends =
+            ap (take 1) (sym (drop_more r.between f.size xs) ∙ ap (drop r.between) (sym f.left))
+            ∙ r.ends;
+        value =
+            r.value ∙ (ap (λ us. us ++ joined_content r.chunks) f.value
+            ∙ append_assoc before f.part (joined_content r.chunks));
+        left =
+            r.left ∙ (ap (drop (1 + r.between)) f.left
+            ∙ (drop_more (1 + r.between) f.size xs ∙ ap (λ j. drop j xs) (let
+            e : f.size + (1 + r.between) ≡ 1 + (f.size + r.between) = omega arith in e)));
+        fits = c.1;
+      }
+
+  by_ended : (before xs us : List ℕ) (next : List ℕ → Reading (List ℕ))
+      → ((more zs : List ℕ) → length zs < length xs → next more zs ≡ Ok (v, ys)
+      → SeenAreBytes zs ys → ChunksFound major budget more zs v ys)
+      → (ended : Bool) → break_at xs ≡ Ok (ended, us)
+      → chunks_by name major budget before next ended us ≡ Ok (v, ys) → SeenAreBytes xs ys
+      → ChunksFound major budget before xs v ys
+  by_ended before xs us next h true e f seen = ended_found before xs us e f
+  by_ended before xs us next h false e f seen =
+      let same : us ≡ xs = (break_no xs us e).2 in
+      let g = ok_parts (chunk_at name major budget before us) next v ys f in
+      let here : chunk_at name major budget before xs ≡ Ok (g.value, g.rest) =
+      ap (chunk_at name major budget before) (sym same) ∙ g.begun in
+      chunk_found before g.value xs g.rest here (h g.value g.rest
+      (chunk_passed name major budget before xs g.value g.rest here).1 g.ended) seen
+
+  chunks_read : (f : ℕ) (before xs : List ℕ) → length xs < f
+      → chunks_on f name major budget before xs ≡ Ok (v, ys) → SeenAreBytes xs ys
+      → ChunksFound major budget before xs v ys
+  chunks_read zero before xs h e seen = absurd (omega (arith, h))
+  chunks_read (suc f) before xs h e seen =
+      let g = ok_parts (break_at xs)
+      (chunks_by name major budget before (chunks_on f name major budget)) v ys e in
+      by_ended before xs g.rest (chunks_on f name major budget) (λ more zs short k there.
+      chunks_read f more zs (omega (arith, h, short)) k there) g.value g.begun g.ended seen
 
 -- ---- strings
 
-string_by_read : (name : List ℕ) (major : ℕ) (budget l : Option ℕ) (xs us v ys : List ℕ)
-    → length_at name major xs ≡ Ok (l, us) → string_by name major budget l us ≡ Ok (v, ys)
-    → SeenAreBytes xs ys → Found (ReadsString major) budget xs v ys
-string_by_read name major budget (Some k) xs us v ys e f seen =
-    let r = known_read name [] major k xs us v ys e f seen in
-    record {
-      count = r.size;
-      cost = 0;
-      read = inl (
-        subst (λ w. ReadsDefiniteString major xs w r.size)
-            (sym r.value) r.read,
-        refl,
-      );
-      fits = fits_zero budget;
-      left = r.left;
-    }
-string_by_read name major budget None xs us v ys e f seen =
-    let o = length_none name major xs us e in
-    let p = (length_passed name major None xs us e).0 in
-    let r = chunks_read (suc (length us)) name major budget [] us v ys (omega arith) f (subst
-    (λ (zs : List ℕ). SeenAreBytes zs ys) (sym p.left) (seen_after p.count xs ys p.within seen)) in
-    record {
-      count = 2 + r.between;
-      cost = chunk_cost r.chunks;
-      read = inr (record {
-        begins = o.0;
-        chunks = r.chunks;
-        between = r.between;
-        read = subst (λ zs. ReadsChunks major r.chunks zs r.between) o.1 r.read;
-        ends =
-            ap (take 1) (sym (drop_more r.between 1 xs) ∙ ap (drop r.between) (sym o.1)) ∙ r.ends;
-        value = r.value;
-        size = refl;
-        cost = refl;
-      });
-      fits = r.fits;
-      left =
-          r.left ∙ (ap (drop (1 + r.between)) o.1 ∙ (drop_more (1 + r.between) 1 xs ∙ ap (λ j.
-          drop j xs) (let e : 1 + (1 + r.between) ≡ 2 + r.between = omega arith in e)));
-    }
+module _ (name : List ℕ) (major : ℕ) (budget : Option ℕ) where
+  string_by_read : (l : Option ℕ) (xs us v ys : List ℕ) → length_at name major xs ≡ Ok (l, us)
+      → string_by name major budget l us ≡ Ok (v, ys) → SeenAreBytes xs ys
+      → Found (ReadsString major) budget xs v ys
+  string_by_read (Some k) xs us v ys e f seen =
+      let r = known_read name major [] k xs us v ys e f seen in
+      record {
+        count = r.size;
+        cost = 0;
+        read = inl (subst (λ w. ReadsDefiniteString major xs w r.size) (sym r.value) r.read, refl);
+        fits = fits_zero budget;
+        left = r.left;
+      }
+  string_by_read None xs us v ys e f seen =
+      let o = length_none name major xs us e in
+      let p = (length_passed name major None xs us e).0 in
+      let r = chunks_read name major budget v ys (suc (length us)) [] us (omega arith) f (subst
+      (λ (zs : List ℕ). SeenAreBytes zs ys) (sym p.left)
+      (seen_after p.count xs ys p.within seen)) in
+      record {
+        count = 2 + r.between;
+        cost = chunk_cost r.chunks;
+        read = inr (record {
+          begins = o.0;
+          chunks = r.chunks;
+          between = r.between;
+          read = subst (λ zs. ReadsChunks major r.chunks zs r.between) o.1 r.read;
+          ends =
+              ap (take 1) (sym (drop_more r.between 1 xs) ∙ ap (drop r.between) (sym o.1))
+              ∙ r.ends;
+          value = r.value;
+          size = refl;
+          cost = refl;
+        });
+        fits = r.fits;
+        left =
+            r.left ∙ (ap (drop (1 + r.between)) o.1 ∙ (drop_more (1 + r.between) 1 xs ∙ ap (λ j.
+            drop j xs) (let e : 1 + (1 + r.between) ≡ 2 + r.between = omega arith in e)));
+      }
 
-pub string_read : (name : List ℕ) (major : ℕ) (budget : Option ℕ) (xs v ys : List ℕ)
-    → string_at name major budget xs ≡ Ok (v, ys) → SeenAreBytes xs ys
-    → Found (ReadsString major) budget xs v ys
-string_read name major budget xs v ys e seen =
-    let g = ok_parts (length_at name major xs) (string_by name major budget) v ys e in
-    string_by_read name major budget g.value xs g.rest v ys g.begun g.ended seen
+  pub string_read : (xs v ys : List ℕ) → string_at name major budget xs ≡ Ok (v, ys)
+      → SeenAreBytes xs ys → Found (ReadsString major) budget xs v ys
+  string_read xs v ys e seen =
+      let g = ok_parts (length_at name major xs) (string_by name major budget) v ys e in
+      string_by_read g.value xs g.rest v ys g.begun g.ended seen
 
 -- ---- errors
 
@@ -270,11 +235,7 @@ length_by_rejected : (t : Bool) (name : List ℕ) (major b : ℕ) (bs : List ℕ
     → cond t (give None) (head_by name major 8 b >=> λ n. give (Some n)) bs ≡ Err (z, ys)
     → (BeginsWith (b ∷ bs) (indefinite_head major) → ⊥) × (head_by name major 8 b bs ≡ Err (z, ys))
 length_by_rejected true name major b bs z ys h e = cc
-length_by_rejected false name major b bs z ys h e = (
-  not_first b (indefinite_head major) bs h,
-  elim (err_parts (head_by name major 8 b bs)
-      (λ n. give (Some n)) z ys e) [ inl r ↦ r | inr r ↦ let f = r.ended in cc ],
-)
+length_by_rejected false name major b bs z ys h e = search (rules, not_first, err_parts, inl, inr)
 
 pub no_length : (name : List ℕ) (major : ℕ) (xs : List ℕ) (z : InputError) (ys : List ℕ)
     → length_at name major xs ≡ Err (z, ys)
@@ -286,194 +247,167 @@ no_length name major (b ∷ bs) z ys e =
     (p.0, head_rejects name major 8 (b ∷ bs) z ys p.1)
 
 content_by : (t : Bool) (name : List ℕ) (count : ℕ) (before xs : List ℕ) (z : InputError)
-    (ys : List ℕ)
-    → ltb (length xs) count ≡ t
+    (ys : List ℕ) → ltb (length xs) count ≡ t
     → cond {A = Result (List ℕ × List ℕ) (InputError × List ℕ)} t
     (Err (eof name (len_of (count - length xs)), []))
     (Ok (before ++ take count xs, drop count xs)) ≡ Err (z, ys)
     → (length xs < count) × (z ≡ eof name (len_of (count - length xs))) × (ys ≡ [])
-content_by true name count before xs z ys h e =
-    let o : Result (List ℕ × List ℕ) (InputError × List ℕ) =
-    Err (eof name (len_of (count - length xs)), []) in
-    let p = same_input_error o refl e in
-    (ltb-true (length xs) count h, sym p.0, sym p.1)
+content_by true name count before xs z ys h e = search (rules, same_input_error, ltb-true)
 content_by false name count before xs z ys h e = cc
 
 pub content_rejected : (name : List ℕ) (count : ℕ) (before xs : List ℕ) (z : InputError)
-    (ys : List ℕ)
-    → content_on name count before xs ≡ Err (z, ys)
+    (ys : List ℕ) → content_on name count before xs ≡ Err (z, ys)
     → (length xs < count) × (z ≡ eof name (len_of (count - length xs))) × (ys ≡ [])
 content_rejected name count before xs z ys e =
     content_by (ltb (length xs) count) name count before xs z ys refl e
 
-known_cut : (name before : List ℕ) (major k : ℕ) (xs us : List ℕ) (z : InputError) (ys : List ℕ)
-    → length_at name major xs ≡ Ok (Some k, us) → content_on name k before us ≡ Err (z, ys)
-    → SeenAreBytes xs ys → CutContent name major xs z ys
-known_cut name before major k xs us z ys e f seen =
-    let c = content_rejected name k before us z ys f in
-    let h = known_length name major k xs us ys e (omega (arith, ap length c.2)) seen in
-    let gap : k - length us ≡ h.before + k - length xs =
-    omega (arith, h.within, ap length h.left, length-drop h.before xs) in
-    record {
-      count = k;
-      before = h.before;
-      head = h.head;
-      short = omega (arith, c.0, h.within, ap length h.left, length-drop h.before xs);
-      answer = c.1 ∙ ap (λ j. eof name (len_of j)) gap;
-      left = c.2;
-    }
-
-begun : (b : ℕ) (xs ys : List ℕ) → BeginsWith xs b → ys ≡ drop 1 xs → xs ≡ b ∷ ys
+pub begun : (b : ℕ) (xs ys : List ℕ) → BeginsWith xs b → ys ≡ drop 1 xs → xs ≡ b ∷ ys
 begun b [] ys h e = cc
 begun b (x ∷ xs) ys h e = let f : x ≡ b = cc in ap₂ ◌∷◌ f (sym e)
 
-inside_rejects_by : (name before : List ℕ) (major : ℕ) (budget l : Option ℕ) (xs us : List ℕ)
-    (z : InputError) (ys : List ℕ) → budget ≢ Some 0 → length_at name major xs ≡ Ok (l, us)
-    → chunk_by name before l us ≡ Err (z, ys) → SeenAreBytes xs ys → RejectsChunk name major xs
-    budget z ys
-inside_rejects_by name before major budget None xs us z ys step e f seen =
-    let o = length_none name major xs us e in
-    let p = same_input_error (reject {V = List ℕ} (require_length name Indefinite) us) refl f in
-    chunk_indefinite step (begun (indefinite_head major) xs ys o.0 (sym p.1 ∙ o.1)) (sym p.0)
-inside_rejects_by name before major budget (Some k) xs us z ys step e f seen =
-    chunk_cut step (known_cut name before major k xs us z ys e f seen)
-
-inside_rejects : (name before : List ℕ) (major : ℕ) (budget : Option ℕ) (xs : List ℕ)
-    (z : InputError)
-    (ys : List ℕ) → budget ≢ Some 0 → xs ≢ [] → (BeginsWith xs break → ⊥)
-    → chunk_inside_at name major before xs ≡ Err (z, ys) → SeenAreBytes xs ys
-    → RejectsChunk name major xs budget z ys
-inside_rejects name before major budget xs z ys step some other e seen =
-    elim (err_parts (length_at name major xs) (chunk_by name before) z ys e) [
-      | inl r ↦ (let h = no_length name major xs z ys r in chunk_rejected step other h.0 some h.1)
-      | inr r ↦
-          inside_rejects_by name before major budget r.value xs r.rest z ys step r.begun
-          r.ended seen
-    ]
-
-chunk_rejects : (name before : List ℕ) (major : ℕ) (budget : Option ℕ) (xs : List ℕ)
-    (z : InputError)
-    (ys : List ℕ) → xs ≢ [] → (BeginsWith xs break → ⊥)
-    → chunk_at name major budget before xs ≡ Err (z, ys) → SeenAreBytes xs ys
-    → RejectsChunk name major xs budget z ys
-chunk_rejects name before major None xs z ys some other e seen =
-    inside_rejects name before major None xs z ys (λ h. cc) some other e seen
-chunk_rejects name before major (Some zero) xs z ys some other e seen =
-    let p = same_input_error (reject {V = List ℕ} (depth_overflow name) xs) refl e in
-    no_step some other refl (sym p.0) (sym p.1)
-chunk_rejects name before major (Some (suc left)) xs z ys some other e seen =
-    inside_rejects name before major (Some (suc left)) xs z ys
-    (λ h. let f : suc left ≡ 0 = cc in omega (arith, f)) some other e seen
-
--- ---- what an error leaves is no longer than what was there
-
-head_length : (name : List ℕ) (major : ℕ) (xs : List ℕ) (z : InputError) (ys : List ℕ)
-    → RejectsHead name major 8 xs z ys → length ys ≤ length xs
-head_length name major [] z ys h = omega (arith, ap length h.1)
-head_length name major (b ∷ bs) z ys (inl h) = omega (arith, ap length h.left)
-head_length name major (b ∷ bs) z ys (inr h) = omega (arith, ap length h.left)
-
-stop_length : (name : List ℕ) (major : ℕ) (budget : Option ℕ) (xs : List ℕ) (z : InputError)
-    (ys : List ℕ) → RejectsChunk name major xs budget z ys → length ys ≤ length xs
-stop_length name major budget xs z ys (no_chunk_byte none answer left) =
-    omega (arith, ap length left)
-stop_length name major budget xs z ys (no_step some other step answer left) =
-    omega (arith, ap length left)
-stop_length name major budget xs z ys (chunk_indefinite step is answer) =
-    omega (arith, ap length is)
-stop_length name major budget xs z ys (chunk_rejected step other known some h) =
-    head_length name major xs z ys h
-stop_length name major budget xs z ys (chunk_cut step h) = omega (arith, ap length h.left)
-
--- ---- errors among chunks
-
-chunk_stopped : (name before : List ℕ) (major : ℕ) (budget : Option ℕ) (more xs zs : List ℕ)
-    (z : InputError) (ys : List ℕ) → chunk_at name major budget before xs ≡ Ok (more, zs)
-    → (SeenAreBytes zs ys → RejectsIndefinite name major zs budget z ys) → SeenAreBytes xs ys
-    → RejectsIndefinite name major xs budget z ys
-chunk_stopped name before major budget more xs zs z ys e next seen =
-    let p = (chunk_passed name major budget before xs more zs e).0 in
-    let r = next (subst (λ (us : List ℕ). SeenAreBytes us ys) (sym p.left)
-    (seen_after p.count xs ys p.within seen)) in
-    let short = stop_length name major budget (drop r.between zs) z ys r.stop in
-    let c = chunk_read name before major budget xs more zs e
-    (seen_more xs ys zs (omega (arith, short, length-drop r.between zs)) seen) in
-    let f = c.0 in
-    record {
-      chunks = f.part ∷ r.chunks;
-      between = f.size + r.between;
-      read = (
-        f.size,
-        r.between,
-        f.read,
-        subst (λ us. ReadsChunks major r.chunks us r.between) f.left r.read,
-        refl,
-      );
-      fits = c.1;
-      stop =
-          subst (λ us. RejectsChunk name major us budget z ys)
-          (ap (drop r.between) f.left ∙ drop_more r.between f.size xs) r.stop;
-    }
-
-rejects_by : (name before : List ℕ) (major : ℕ) (budget : Option ℕ) (xs us : List ℕ)
-    (z : InputError)
-    (ys : List ℕ) (next : List ℕ → Reading (List ℕ))
-    → ((more zs : List ℕ) → length zs < length xs → next more zs ≡ Err (z, ys) → SeenAreBytes zs ys
-    → RejectsIndefinite name major zs budget z ys)
-    → (ended : Bool) → break_at xs ≡ Ok (ended, us)
-    → chunks_by name major budget before next ended us ≡ Err (z, ys) → SeenAreBytes xs ys
-    → RejectsIndefinite name major xs budget z ys
-rejects_by name before major budget xs us z ys next h true e f seen = cc
-rejects_by name before major budget xs us z ys next h false e f seen =
-    let b = break_no xs us e in
-    let same : us ≡ xs = b.2 in
-    let here : go_on (chunk_at name major budget before xs) next ≡ Err (z, ys) =
-    ap (λ ws. go_on (chunk_at name major budget before ws) next) (sym same) ∙ f in
-    elim (err_parts (chunk_at name major budget before xs) next z ys here) [
-      | inl r ↦ record {
-        chunks = [];
-        between = 0;
-        read = refl;
-        fits = fits_zero budget;
-        stop = chunk_rejects name before major budget xs z ys b.0 b.1 r seen;
+module _ (name : List ℕ) (major : ℕ) (z : InputError) (ys : List ℕ) where
+  known_cut : (before : List ℕ) (k : ℕ) (xs us : List ℕ)
+      → length_at name major xs ≡ Ok (Some k, us) → content_on name k before us ≡ Err (z, ys)
+      → SeenAreBytes xs ys → CutContent name major xs z ys
+  known_cut before k xs us e f seen =
+      let c = content_rejected name k before us z ys f in
+      let h = known_length name major k xs us ys e (omega (arith, ap length c.2)) seen in
+      let gap : k - length us ≡ h.before + k - length xs =
+      omega (arith, h.within, ap length h.left, length-drop h.before xs) in
+      record {
+        count = k;
+        before = h.before;
+        head = h.head;
+        short = omega (arith, c.0, h.within, ap length h.left, length-drop h.before xs);
+        answer = c.1 ∙ ap (λ j. eof name (len_of j)) gap;
+        left = c.2;
       }
-      | inr r ↦
-          chunk_stopped name before major budget r.value xs r.rest z ys r.begun (h r.value r.rest
-          (chunk_passed name major budget before xs r.value r.rest r.begun).1 r.ended) seen
-    ]
 
-chunks_stop : (f : ℕ) (name before : List ℕ) (major : ℕ) (budget : Option ℕ) (xs : List ℕ)
-    (z : InputError) (ys : List ℕ) → length xs < f
-    → chunks_on f name major budget before xs ≡ Err (z, ys) → SeenAreBytes xs ys
-    → RejectsIndefinite name major xs budget z ys
-chunks_stop zero name before major budget xs z ys h e seen = absurd (omega (arith, h))
-chunks_stop (suc f) name before major budget xs z ys h e seen = elim (err_parts (break_at xs)
-    (chunks_by name major budget before (chunks_on f name major budget)) z ys e) [
-      | inl r ↦ (let b = break_rejected xs ys z r in record {
-        chunks = [];
-        between = 0;
-        read = refl;
-        fits = fits_zero budget;
-        stop = no_chunk_byte b.0 b.1 b.2;
-      })
-      | inr r ↦ rejects_by name before major budget xs r.rest z ys (chunks_on f name major budget)
-          (λ more zs short k there. chunks_stop f name more major budget zs z ys
-          (omega (arith, h, short)) k there) r.value r.begun r.ended seen
-    ]
+  inside_rejects_by : (before : List ℕ) (budget l : Option ℕ) (xs us : List ℕ)
+      → budget ≢ Some 0 → length_at name major xs ≡ Ok (l, us)
+      → chunk_by name before l us ≡ Err (z, ys) → SeenAreBytes xs ys
+      → RejectsChunk name major xs budget z ys
+  inside_rejects_by before budget None xs us step e f seen =
+      search (rules, length_none, same_input_error, chunk_indefinite)
+  inside_rejects_by before budget (Some k) xs us step e f seen =
+      chunk_cut step (known_cut before k xs us e f seen)
 
-string_by_rejects : (name : List ℕ) (major : ℕ) (budget l : Option ℕ) (xs us : List ℕ)
-    (z : InputError)
-    (ys : List ℕ) → length_at name major xs ≡ Ok (l, us)
-    → string_by name major budget l us ≡ Err (z, ys) → SeenAreBytes xs ys
-    → RejectsString name major xs budget z ys
-string_by_rejects name major budget (Some k) xs us z ys e f seen =
-    string_cut (known_cut name [] major k xs us z ys e f seen)
-string_by_rejects name major budget None xs us z ys e f seen =
-    let o = length_none name major xs us e in
-    let p = (length_passed name major None xs us e).0 in
-    let r = chunks_stop (suc (length us)) name [] major budget us z ys (omega arith) f (subst
-    (λ (zs : List ℕ). SeenAreBytes zs ys) (sym p.left) (seen_after p.count xs ys p.within seen)) in
-    string_indefinite o.0 (subst (λ zs. RejectsIndefinite name major zs budget z ys) o.1 r)
+  inside_rejects : (before : List ℕ) (budget : Option ℕ) (xs : List ℕ) → budget ≢ Some 0
+      → xs ≢ [] → (BeginsWith xs break → ⊥) → chunk_inside_at name major before xs ≡ Err (z, ys)
+      → SeenAreBytes xs ys → RejectsChunk name major xs budget z ys
+  inside_rejects before budget xs step some other e seen =
+      elim (err_parts (length_at name major xs) (chunk_by name before) z ys e) [
+        | inl r ↦
+            (let h = no_length name major xs z ys r in chunk_rejected step other h.0 some h.1)
+        | inr r ↦
+            inside_rejects_by before budget r.value xs r.rest step r.begun r.ended seen
+      ]
+
+  chunk_rejects : (before : List ℕ) (budget : Option ℕ) (xs : List ℕ) → xs ≢ []
+      → (BeginsWith xs break → ⊥) → chunk_at name major budget before xs ≡ Err (z, ys)
+      → SeenAreBytes xs ys → RejectsChunk name major xs budget z ys
+  chunk_rejects before None xs some other e seen =
+      inside_rejects before None xs (λ h. cc) some other e seen
+  chunk_rejects before (Some zero) xs some other e seen =
+      search (rules, same_input_error, no_step)
+  chunk_rejects before (Some (suc left)) xs some other e seen =
+      inside_rejects before (Some (suc left)) xs
+      (λ h. let f : suc left ≡ 0 = cc in omega (arith, f)) some other e seen
+
+  -- ---- what an error leaves is no longer than what was there
+
+  head_length : (xs : List ℕ) → RejectsHead name major 8 xs z ys → length ys ≤ length xs
+  head_length [] h = omega (arith, ap length h.1)
+  head_length (b ∷ bs) (inl h) = omega (arith, ap length h.left)
+  head_length (b ∷ bs) (inr h) = omega (arith, ap length h.left)
+
+  stop_length : (budget : Option ℕ) (xs : List ℕ) → RejectsChunk name major xs budget z ys
+      → length ys ≤ length xs
+  stop_length budget xs (no_chunk_byte none answer left) = omega (arith, ap length left)
+  stop_length budget xs (no_step some other step answer left) = omega (arith, ap length left)
+  stop_length budget xs (chunk_indefinite step is answer) = omega (arith, ap length is)
+  stop_length budget xs (chunk_rejected step other known some h) = head_length xs h
+  stop_length budget xs (chunk_cut step h) = omega (arith, ap length h.left)
+
+  -- ---- errors among chunks
+
+  none_yet : (budget : Option ℕ) (xs : List ℕ) → RejectsChunk name major xs budget z ys
+      → RejectsIndefinite name major xs budget z ys
+  none_yet budget xs stop =
+      record { chunks = []; between = 0; read = refl; fits = fits_zero budget; stop = stop }
+
+  chunk_stopped : (before : List ℕ) (budget : Option ℕ) (more xs zs : List ℕ)
+      → chunk_at name major budget before xs ≡ Ok (more, zs)
+      → (SeenAreBytes zs ys → RejectsIndefinite name major zs budget z ys) → SeenAreBytes xs ys
+      → RejectsIndefinite name major xs budget z ys
+  chunk_stopped before budget more xs zs e next seen =
+      let p = (chunk_passed name major budget before xs more zs e).0 in
+      let r = next (subst (λ (us : List ℕ). SeenAreBytes us ys) (sym p.left)
+      (seen_after p.count xs ys p.within seen)) in
+      let short = stop_length budget (drop r.between zs) r.stop in
+      let c = chunk_read name major budget before xs more zs e
+      (seen_more xs ys zs (omega (arith, short, length-drop r.between zs)) seen) in
+      let f = c.0 in
+      record {
+        chunks = f.part ∷ r.chunks;
+        between = f.size + r.between;
+        read = (
+          f.size,
+          r.between,
+          f.read,
+          subst (λ us. ReadsChunks major r.chunks us r.between) f.left r.read,
+          refl,
+        );
+        fits = c.1;
+        stop =
+            subst (λ us. RejectsChunk name major us budget z ys)
+            (ap (drop r.between) f.left ∙ drop_more r.between f.size xs) r.stop;
+      }
+
+  rejects_by : (before : List ℕ) (budget : Option ℕ) (xs us : List ℕ)
+      (next : List ℕ → Reading (List ℕ))
+      → ((more zs : List ℕ) → length zs < length xs → next more zs ≡ Err (z, ys)
+      → SeenAreBytes zs ys → RejectsIndefinite name major zs budget z ys)
+      → (ended : Bool) → break_at xs ≡ Ok (ended, us)
+      → chunks_by name major budget before next ended us ≡ Err (z, ys) → SeenAreBytes xs ys
+      → RejectsIndefinite name major xs budget z ys
+  rejects_by before budget xs us next h true e f seen = cc
+  rejects_by before budget xs us next h false e f seen =
+      let b = break_no xs us e in
+      let same : us ≡ xs = b.2 in
+      let here : go_on (chunk_at name major budget before xs) next ≡ Err (z, ys) =
+      ap (λ ws. go_on (chunk_at name major budget before ws) next) (sym same) ∙ f in
+      elim (err_parts (chunk_at name major budget before xs) next z ys here) [
+        | inl r ↦ none_yet budget xs (chunk_rejects before budget xs b.0 b.1 r seen)
+        | inr r ↦
+            chunk_stopped before budget r.value xs r.rest r.begun (h r.value r.rest
+            (chunk_passed name major budget before xs r.value r.rest r.begun).1 r.ended) seen
+      ]
+
+  chunks_stop : (f : ℕ) (before : List ℕ) (budget : Option ℕ) (xs : List ℕ) → length xs < f
+      → chunks_on f name major budget before xs ≡ Err (z, ys) → SeenAreBytes xs ys
+      → RejectsIndefinite name major xs budget z ys
+  chunks_stop zero before budget xs h e seen = absurd (omega (arith, h))
+  chunks_stop (suc f) before budget xs h e seen = elim (err_parts (break_at xs)
+      (chunks_by name major budget before (chunks_on f name major budget)) z ys e) [
+        | inl r ↦
+            (let b = break_rejected xs ys z r in none_yet budget xs (no_chunk_byte b.0 b.1 b.2))
+        | inr r ↦ rejects_by before budget xs r.rest (chunks_on f name major budget)
+            (λ more zs short k there. chunks_stop f more budget zs (omega (arith, h, short)) k
+            there) r.value r.begun r.ended seen
+      ]
+
+  string_by_rejects : (budget l : Option ℕ) (xs us : List ℕ)
+      → length_at name major xs ≡ Ok (l, us) → string_by name major budget l us ≡ Err (z, ys)
+      → SeenAreBytes xs ys → RejectsString name major xs budget z ys
+  string_by_rejects budget (Some k) xs us e f seen = string_cut (known_cut [] k xs us e f seen)
+  string_by_rejects budget None xs us e f seen =
+      let o = length_none name major xs us e in
+      let p = (length_passed name major None xs us e).0 in
+      let r = chunks_stop (suc (length us)) [] budget us (omega arith) f (subst
+      (λ (zs : List ℕ). SeenAreBytes zs ys) (sym p.left)
+      (seen_after p.count xs ys p.within seen)) in
+      string_indefinite o.0 (subst (λ zs. RejectsIndefinite name major zs budget z ys) o.1 r)
 
 pub string_rejects : (name : List ℕ) (major : ℕ) (budget : Option ℕ) (xs : List ℕ) (z : InputError)
     (ys : List ℕ) → string_at name major budget xs ≡ Err (z, ys) → SeenAreBytes xs ys
@@ -481,5 +415,5 @@ pub string_rejects : (name : List ℕ) (major : ℕ) (budget : Option ℕ) (xs :
 string_rejects name major budget xs z ys e seen =
     elim (err_parts (length_at name major xs) (string_by name major budget) z ys e) [
       | inl r ↦ (let h = no_length name major xs z ys r in string_head_rejected h.0 h.1)
-      | inr r ↦ string_by_rejects name major budget r.value xs r.rest z ys r.begun r.ended seen
+      | inr r ↦ string_by_rejects name major z ys budget r.value xs r.rest r.begun r.ended seen
     ]

@@ -1,8 +1,8 @@
 -- A head that stands whole in a prefix that was shown.
-use Rattle.std.proofs.Common.{◌≡◌, ◌≢◌, ℕ, suc, ◌+◌, ◌-◌, ◌^◌, ◌<◌, ◌≤◌, ◌/◌, ◌%◌, List, [], ◌∷◌, ◌++◌}
-use Rattle.std.proofs.Common.{length, take, drop, Option, Some, None, Result, Ok, Err, true, false}
-use Rattle.std.proofs.Common.{refl, sym, ap, ◌∙◌, OnOk, IfOk, OnSome, subst, arith, eqb, eq-eqb, ltb, lt-ltb}
-use Rattle.std.proofs.Common.{le-ltb, slice_index_or}
+use Rattle.std.proofs.Common.{◌≡◌, ◌≢◌, ℕ, suc, ◌+◌, ◌-◌, ◌^◌, ◌<◌, ◌≤◌, ◌/◌, ◌%◌, List, [], ◌∷◌}
+use Rattle.std.proofs.Common.{◌++◌, length, take, drop, Option, Some, None, Result, Ok, Err, true}
+use Rattle.std.proofs.Common.{refl, sym, ap, ◌∙◌, OnOk, IfOk, OnSome, subst, arith}
+use Rattle.std.proofs.Common.{eq-eqb, lt-ltb, le-ltb, slice_index_or, rules}
 use Rattle.std.proofs.lemmas.List.{take-append-drop, drop-append-le}
 use Rattle.std.proofs.Math.Seq.{take-length}
 use Rattle.std.proofs.lemmas.Bool.{ne_eqb}
@@ -13,8 +13,7 @@ use Rattle.cbor4ii_rw.specs.declared.error.DecodeError.TheVariants.{Read}
 use Rattle.cbor4ii_items.specs.Head.{indefinite_head}
 use Rattle.cbor4ii_items.specs.Moves.{ReaderFailed}
 use Rattle.cbor4ii_items.specs.Lent.{Stays}
-use Rattle.cbor4ii_items.specs.InputError.{mismatch}
-use Rattle.cbor4ii_items.specs.Reading.{Reading, go_on, give, Runs}
+use Rattle.cbor4ii_items.specs.Reading.{Reading, Runs}
 use Rattle.cbor4ii_items.specs.ReadHead.{number_on, argument_size, allowed_info, head_by, head_at}
 use Rattle.cbor4ii_items.specs.ReadHead.{length_at}
 use Rattle.cbor4ii_items.specs.Prefix.{IsWholeHead, IsArgument, RunsOrStays, TookSeen}
@@ -30,32 +29,20 @@ trailing b bs = let e : length (b ∷ bs) - 1 ≡ length bs = omega arith in rw 
 
 in_first_byte : (name rest : List ℕ) (major width b : ℕ) → b / 32 ≡ major → b % 32 < 24
     → head_by name major width b rest ≡ Ok (b % 32, rest)
-in_first_byte name rest major width b m small =
-    let t : eqb (b / 32) major ≡ true = eq-eqb (b / 32) major m in
-    let u : ltb (b % 32) 24 ≡ true = lt-ltb (b % 32) 24 small in
-    rw (t, u) refl
+in_first_byte name rest major width b m small = search (rules, eq-eqb, lt-ltb)
 
 in_following : (name rest : List ℕ) (major width b : ℕ) → b / 32 ≡ major → 24 ≤ b % 32
     → allowed_info width (b % 32) ≡ true
     → head_by name major width b rest ≡ number_on name (argument_size (b % 32))
     (argument_size (b % 32)) 0 rest
-in_following name rest major width b m large may =
-    let t : eqb (b / 32) major ≡ true = eq-eqb (b / 32) major m in
-    let u : ltb (b % 32) 24 ≡ false = le-ltb (b % 32) 24 large in
-    rw (t, u, may) refl
+in_following name rest major width b m large may = search (rules, eq-eqb, le-ltb)
 
 pub whole_in_first : (major width : ℕ) (shown : List ℕ) → 1 ≤ length shown
     → slice_index_or shown 0 0 < 256 → slice_index_or shown 0 0 / 32 ≡ major
     → slice_index_or shown 0 0 % 32 < 24
     → IsWholeHead major width shown (slice_index_or shown 0 0 % 32) 1
 whole_in_first major width [] some byte m small = absurd (omega arith)
-whole_in_first major width (b ∷ bs) some byte m small = record {
-  some = omega arith;
-  within = omega arith;
-  fits = λ w. small_argument (b % 32) width small w;
-  bytes = (byte, tt);
-  head = λ name rest. in_first_byte name (bs ++ rest) major width b m small;
-}
+whole_in_first major width (b ∷ bs) some byte m small = search (rules, small_argument, in_first_byte)
 
 pub whole_after : (major width argument : ℕ) (shown : List ℕ) → 1 ≤ length shown
     → slice_index_or shown 0 0 < 256 → slice_index_or shown 0 0 / 32 ≡ major
@@ -111,11 +98,7 @@ pub took_whole : {E : Type 0} {major width want argument n : ℕ} {shown : List 
     → Shows shown a m → IfKnown a.known (IsPrefix want shown)
     → IsWholeHead major width shown argument n → Advances n m b
     → TookSeen E (λ name. head_at name major width) (λ v. 1 ≤ width → v < 256 ^ width) argument a b
-took_whole s prefix h adv = record {
-  runs = λ name. runs_whole name s prefix h adv;
-  fits = h.fits;
-  progress = omega (arith, h.some, adv.bound, s.bound);
-}
+took_whole s prefix h adv = search (rules, runs_whole)
 
 pub runs_seen : {E : Type 0} {program : List ℕ → Reading ℕ} {small : ℕ → Type 0} {v : ℕ}
     {a b : View} → TookSeen E program small v a b
@@ -125,10 +108,7 @@ runs_seen h = h.runs
 -- a call after one that took nothing
 pub runs_stayed : {V E : Type 0} {f : Reading V} {a m b : View} {r : Result V (DecodeError E)}
     → Stays a m → Runs f m b r → Runs f a b r
-runs_stayed {m = m} {b = b} {r = r} s p = record {
-  moves = moves_then s.kept p.moves;
-  answers = λ xs known. p.answers xs (s.known xs known);
-}
+runs_stayed {m = m} {b = b} {r = r} s p = search (rules, moves_then)
 
 pub progress_stayed : {V E : Type 0} {a m : View} (bound : ℕ) (r : Result V (DecodeError E))
     → Stays a m → OnOk r (bound + 1 ≤ m.bound) → OnOk r (bound + 1 ≤ a.bound)
@@ -167,25 +147,14 @@ runs_broke p = record { moves = record { by = p; depth = λ n. refl }; answers =
 
 not_indefinite : (name : List ℕ) (major b n : ℕ) (bs ys : List ℕ) → major < 8
     → head_by name major 8 b bs ≡ Ok (n, ys) → b ≢ indefinite_head major
-not_indefinite name major b n bs ys m e is =
-    let t : eqb (b / 32) major ≡ true = eq-eqb (b / 32) major (omega (arith, is)) in
-    let i : b % 32 ≡ 31 = omega (arith, is) in
-    let f : head_by name major 8 b bs ≡ Err (mismatch name b, bs) = rw (t, i) refl in
-    cc
+not_indefinite name major b n bs ys m e is = search (rules, eq-eqb)
 
 length_read : (name : List ℕ) (major n : ℕ) (xs ys : List ℕ) → major < 8
     → head_at name major 8 xs ≡ Ok (n, ys) → length_at name major xs ≡ Ok (Some n, ys)
 length_read name major n [] ys m e = cc
-length_read name major n (b ∷ bs) ys m e =
-    let t : eqb b (indefinite_head major) ≡ false =
-    ne_eqb b (indefinite_head major) (not_indefinite name major b n bs ys m e) in
-    rw t (ap (λ r. go_on r (λ k. give (Some k))) e)
+length_read name major n (b ∷ bs) ys m e = search (rules, ne_eqb, not_indefinite)
 
 pub runs_definite : {E : Type 0} (name : List ℕ) (major : ℕ) {n : ℕ} {a b : View} → major < 8
     → Runs {E = E} (head_at name major 8) a b (Ok n)
     → Runs {E = E} (length_at name major) a b (Ok (Some n))
-runs_definite name major {n = n} m p = record {
-  moves = moves_ok p.moves;
-  answers =
-      λ xs known. let h = p.answers xs known in (h.0, h.1, length_read name major n xs h.0 m h.2);
-}
+runs_definite name major {n = n} m p = search (rules, moves_ok, length_read)

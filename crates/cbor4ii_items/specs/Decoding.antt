@@ -1,7 +1,7 @@
 -- What a decoding call answers, where the reader reports its bytes.
-use Rattle.std.specs.Prelude.{◌^◌, ◌<◌, length, ◌≡◌, ℕ, ◌≤◌, ◌⊎◌, Bool, List, drop, Some}
-use Rattle.std.specs.Prelude.{Option, Result, IfSome, IfOk, IfErr, OnOk, IsTrue, true, false}
-use Rattle.std.specs.Prelude.{take, ◌++◌, ◌+◌}
+use Rattle.std.specs.Prelude.{◌^◌, ◌<◌, length, ◌≡◌, ℕ, ◌≤◌, ◌⊎◌, Bool, List, drop, Some, Option}
+use Rattle.std.specs.Prelude.{Result, IfSome, IfOk, IfErr, OnOk, IsTrue, true, false, take, ◌++◌}
+use Rattle.std.specs.Prelude.{◌+◌}
 use Rattle.cbor4ii_rw.specs.View.{View, IfKnown}
 use Rattle.cbor4ii_rw.specs.declared.error.DecodeError.{DecodeError}
 use Rattle.cbor4ii_items.specs.Budget.{CostFits}

@@ -1,6 +1,5 @@
 -- What comes next in a sequence of items (RFC 8742): an item, or the end of the input.
-use Rattle.std.specs.Prelude.{◌≡◌, ◌≤◌, [], ◌∷◌, length, Bool, true, false, Option, None}
-use Rattle.std.specs.Prelude.{Some, Ok}
+use Rattle.std.specs.Prelude.{◌≡◌, ◌≤◌, [], ◌∷◌, length, Bool, true, false, Option, None, Some, Ok}
 use Rattle.cbor4ii_items.specs.Containers.{SameOption}
 use Rattle.cbor4ii_items.specs.Decoding.{Format, Reads, RejectsAt}
 use Rattle.cbor4ii_items.specs.Reading.{Reading}

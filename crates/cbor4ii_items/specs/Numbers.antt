@@ -5,8 +5,7 @@ use Rattle.cbor4ii_rw.specs.declared.error.Len.TheVariants.{Small, Indefinite}
 use Rattle.cbor4ii_items.specs.declared.types.Negative.{Negative}
 use Rattle.cbor4ii_items.specs.Head.{head, indefinite_head, shortest_width, IsBytes}
 use Rattle.cbor4ii_items.specs.InputError.{InputError, mismatch, eof, require_length}
-use Rattle.cbor4ii_items.specs.InputError.{length_overflow}
-use Rattle.cbor4ii_items.specs.InputError.{cast_overflow, len_of}
+use Rattle.cbor4ii_items.specs.InputError.{length_overflow, cast_overflow, len_of}
 use Rattle.cbor4ii_items.specs.Heads.{ReadsHead, RejectsHead}
 use Rattle.cbor4ii_items.specs.Magnitude.{number_of, magnitude}
 use Rattle.cbor4ii_items.specs.Decoding.{Reads, RejectsAt, Format, leaf_format, format_by}

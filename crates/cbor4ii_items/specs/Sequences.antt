@@ -1,9 +1,8 @@
 -- What arrays and maps are encoded as, and how they are rejected (RFC 8949 sections 3.1, 3.2.1 and
 -- 3.2.2). Both are sequences of elements: an element of an array is an item, and an element of a
 -- map is a key and its value.
-use Rattle.std.specs.Prelude.{◌≡◌, ◌≢◌, ℕ, ◌+◌, ◌-◌, ◌<◌, ◌⊎◌, List, [], ◌∷◌, length, take}
-use Rattle.std.specs.Prelude.{◌&&◌, ◌||◌, drop, max, Bool, true, false, Option, None, Some}
-use Rattle.std.specs.Prelude.{IsTrue, codes}
+use Rattle.std.specs.Prelude.{◌≡◌, ◌≢◌, ℕ, ◌+◌, ◌-◌, ◌<◌, ◌⊎◌, List, [], ◌∷◌, length, take, ◌&&◌}
+use Rattle.std.specs.Prelude.{◌||◌, drop, max, Bool, true, false, Option, None, Some, IsTrue, codes}
 use Rattle.std.specs.declared.alloc.Global.{Global}
 use Rattle.std.specs.declared.vec.Vec.{Vec}
 use Rattle.cbor4ii_rw.specs.declared.error.Len.TheVariants.{Small, Indefinite}

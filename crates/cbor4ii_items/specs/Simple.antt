@@ -9,8 +9,7 @@ use Rattle.cbor4ii_items.specs.Marked.{NoneBegins, marked_at}
 use Rattle.cbor4ii_items.specs.Numbers.{ReadsArgument, RejectsArgument, argument_format}
 use Rattle.cbor4ii_items.specs.Laws.Arguments.{argument_lawful}
 use Rattle.cbor4ii_items.specs.Laws.Formats.{lawful_by}
-use Rattle.cbor4ii_items.specs.Decoding.{Reads, RejectsAt, Format, IsLawful, leaf_format}
-use Rattle.cbor4ii_items.specs.Decoding.{format_by}
+use Rattle.cbor4ii_items.specs.Decoding.{Reads, RejectsAt, Format, IsLawful, leaf_format, format_by}
 
 -- ---- any simple value, by its number
 

@@ -4,11 +4,10 @@ use Rattle.std.specs.Prelude.{drop, Bool, true, false, Option, Some, codes, IsUt
 use Rattle.cbor4ii_rw.specs.declared.error.Len.TheVariants.{Small, Indefinite}
 use Rattle.cbor4ii_items.specs.Head.{break, indefinite_head}
 use Rattle.cbor4ii_items.specs.InputError.{InputError, eof, require_length, require_utf8}
-use Rattle.cbor4ii_items.specs.InputError.{depth_overflow}
-use Rattle.cbor4ii_items.specs.InputError.{len_of}
-use Rattle.cbor4ii_items.specs.Decoding.{Reads, RejectsAt, Format, leaf_format}
+use Rattle.cbor4ii_items.specs.InputError.{depth_overflow, len_of}
+use Rattle.cbor4ii_items.specs.Decoding.{Reads, RejectsAt, Format, leaf_format, looking_format}
+use Rattle.cbor4ii_items.specs.Decoding.{format_by, taking_memory}
 use Rattle.cbor4ii_items.specs.Budget.{CostFits}
-use Rattle.cbor4ii_items.specs.Decoding.{looking_format, format_by, taking_memory}
 use Rattle.cbor4ii_items.specs.Heads.{ReadsHead, RejectsHead}
 pub use Rattle.cbor4ii_items.specs.Numbers.{definite_string}
 use Rattle.cbor4ii_items.specs.declared.types.Bytes.{Bytes}

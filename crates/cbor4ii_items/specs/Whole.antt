@@ -1,6 +1,6 @@
 -- What it answers to read an input as one item: the whole of it, and nothing else.
-use Rattle.std.specs.Prelude.{◌≡◌, ℕ, ◌+◌, ◌^◌, ◌<◌, ◌≤◌, ◌⊎◌, Bool, List, length, Some}
-use Rattle.std.specs.Prelude.{Result, Ok, Err, IfOk, IfErr, IfSome, IsTrue, Option}
+use Rattle.std.specs.Prelude.{◌≡◌, ℕ, ◌+◌, ◌^◌, ◌<◌, ◌≤◌, ◌⊎◌, Bool, List, length, Some, Result, Ok}
+use Rattle.std.specs.Prelude.{Err, IfOk, IfErr, IfSome, IsTrue, Option}
 use Rattle.cbor4ii_rw.specs.Input.{limit}
 use Rattle.cbor4ii_rw.specs.declared.error.DecodeError.{DecodeError}
 use Rattle.cbor4ii_rw.specs.declared.error.ErrorAt.{ErrorAt}

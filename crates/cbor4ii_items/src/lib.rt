@@ -1,5 +1,5 @@
 //! Items: what is read and written, from numbers to arrays and maps.
-#![tactic(auto)]
+#![tactic(auto, using(crate::proofs::Passed::decodes_passed, crate::proofs::Passed::runs_passed, crate::proofs::Passed::writes_passed))]
 
 mod additional;
 pub mod bignum;

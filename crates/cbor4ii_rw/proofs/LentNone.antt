@@ -1,6 +1,6 @@
 -- What a reader that lends nothing says of a prefix that it shows.
 use Rattle.std.proofs.Common.{◌≡◌, ℕ, ◌<◌, ◌≤◌, List, [], length, Option, Some, IsTrue, Bool, true}
-use Rattle.std.proofs.Common.{false, sym, ap, ◌∙◌, subst, arith}
+use Rattle.std.proofs.Common.{false, sym, ap, ◌∙◌, subst, arith, rules}
 use Rattle.std.specs.Prelude.{MatchOption}
 use Rattle.std.specs.Borrow.{Bor}
 use Rattle.std.proofs.lemmas.List.{nil_from_length}
@@ -31,16 +31,6 @@ module _ {want : ℕ} {a b : View} (answer : Option (Bor (List ℕ))) (shown : B
   pub lends_none : 1 ≤ length shown.now → a.zero_copy ≡ false → BorrowsNone a b
   lends_none some unlent = record {
     some = λ xs known none. omega (arith, some, (prefix xs known).within, ap length none);
-    stays = record {
-      known = shows.known;
-      bound = shows.bound;
-      advanceable = omega arith;
-      budget = shows.budget;
-      failures = shows.failures;
-      taken = shows.taken;
-      zero_copy = shows.zero_copy;
-      remembers = shows.remembers;
-      ends_at = shows.ends_at;
-    };
+    stays = search rules;
     short = not_whole a.zero_copy unlent;
   }

@@ -1,5 +1,5 @@
 -- What `show` of a reader over a line answers, after it waited and lent what has come.
-use Rattle.std.proofs.Common.{◌≡◌, ℕ, ◌≤◌, List, sym, subst, rules, arith, length-take}
+use Rattle.std.proofs.Common.{◌≡◌, ℕ, ◌≤◌, List, rules}
 use Rattle.std.specs.Prelude.{Option, Some, None, Result, Ok, Err, IfOk, length, IsTrue}
 use Rattle.std.specs.Prelude.{MatchOption, MatchResult}
 use Rattle.std.specs.Borrow.{Bor}
@@ -40,35 +40,15 @@ pub record Answers {L E : Type 0} (want : ℕ) (before after : LineReader L)
   pub whole : Whole want before r
   pub left : Left want before after r
 
--- no byte is reported
-known_of_none : {xs : List ℕ} {P : Type 0} → None ≡ Some xs → P
-known_of_none is = absurd (search (is, rules))
-
 -- no more bytes are shown than can still come
 fit : {L : Type 0} (want : ℕ) (before waited : LineReader L) (bytes : Bor (List ℕ))
     → Shows (line_ready_bytes waited.ready) (line_view before) (line_view waited)
     → bytes.now ≡ line_ready_bytes waited.ready → length bytes.now ≤ (line_view before).bound
-fit want before waited bytes shows ready =
-    let same : waited.ready.taken ≡ before.ready.taken = search (shows.taken, rules) in
-    let short : length bytes.now ≤ waited.ready.count =
-    rw ready (omega (arith, length-take waited.ready.count waited.ready.room.items)) in
-    omega (arith, same, short, waited.ready.fits)
+fit want before waited bytes shows ready = search rules
 
 pub answered : {L E : Type 0} (want : ℕ) (before waited after : LineReader L) (failure : Option E)
     (bytes : Bor (List ℕ)) (r : Result (Bor (List ℕ)) E) → Waits want before waited failure
     → bytes.now ≡ line_ready_bytes waited.ready → line_view after ≡ line_view waited
     → HandsOn failure bytes r → Answers want before after r
-answered want before waited after None bytes r waits ready kept told =
-    subst (Answers want before after) (sym told) (record {
-      prefix = λ xs is. known_of_none is;
-      bounded = fit want before waited bytes waits ready;
-      whole = λ zero_copy xs is. known_of_none is;
-      left = rw (ready, kept) waits;
-    })
-answered want before waited after (Some error) bytes r waits ready kept told =
-    subst (Answers want before after) (sym told) (record {
-      prefix = tt;
-      bounded = tt;
-      whole = λ zero_copy. tt;
-      left = rw kept waits;
-    })
+answered want before waited after None bytes r waits ready kept told = search rules
+answered want before waited after (Some error) bytes r waits ready kept told = search rules

@@ -1,5 +1,5 @@
 -- What a reader's answer says once its error has gone to a slot.
-use Rattle.std.proofs.Common.{◌≡◌, sym, subst, refl}
+use Rattle.std.proofs.Common.{◌≡◌, sym, subst, rules}
 use Rattle.std.specs.Prelude.{Option, Some, None, Result, Ok, Err, IfSome, OnSome, IfNone, IfOk}
 use Rattle.std.specs.Prelude.{IsSome, MatchOption, MatchResult}
 use Rattle.cbor4ii_rw.specs.Parted.{PartsAnswer}
@@ -25,8 +25,7 @@ slot_kept (Err e) before after o p = subst (λ t. OnSome t (after ≡ before)) (
 pub error_kept : {T E : Type 0} (r : Result T E) (before after : Option E) (o : Option T)
     → PartsAnswer r before after o → IfNone o (IsSome after)
 error_kept (Ok x) before after o p = subst (λ t. IfNone t (IsSome after)) (sym p.0) tt
-error_kept (Err e) before after o p = subst (λ t. IfNone o (IsSome t)) (sym p.1)
-    (subst (λ t. IfNone t (IsSome (Some e))) (sym p.0) refl)
+error_kept (Err e) before after o p = search rules
 
 -- what the answer leaves of the reader
 pub leaves : {T E : Type 0} (Broken : Type 0) (Shown : T → Type 0) (r : Result T E)

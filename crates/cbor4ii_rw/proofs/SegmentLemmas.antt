@@ -1,6 +1,6 @@
 -- What a reader over segments shows of its current one.
 use Rattle.std.proofs.Common.{rules, arith, ◌≡◌, ℕ, ◌+◌, ◌<◌, min, List, [], ◌∷◌, ◌++◌, length}
-use Rattle.std.proofs.Common.{take, nat_lt, refl, sym, ap, subst, ◌∙◌, ◌≤◌, Some, length-append}
+use Rattle.std.proofs.Common.{take, nat_lt, refl, sym, ap, subst, ◌∙◌, ◌≤◌, length-append}
 use Rattle.std.proofs.Common.{length-take-le}
 use Rattle.std.proofs.lemmas.List.{take-append-le, nil_from_length}
 use Rattle.std.proofs.lemmas.Bool.{ltb-true}
@@ -42,9 +42,7 @@ full_zero (byte ∷ bytes) none = absurd (search (none, rules))
 none_full : (others : List (Bor (List ℕ))) → full_count others ≡ 0 → joined_segments others ≡ []
 none_full [] none = refl
 none_full (segment ∷ others) none =
-    nothing_left segment.now (joined_segments others)
-    (ap length (full_zero segment.now (omega arith)))
-    (none_full others (omega arith))
+    search (rules, nothing_left, full_zero, (none_full others (omega arith)))
 
 last_full : (current : List ℕ) (others : List (Bor (List ℕ)))
     → (length current ≡ 0 → current ++ joined_segments others ≡ [])
@@ -58,19 +56,13 @@ current_is_enough : (want n : ℕ) (current : List ℕ) (others : List (Bor (Lis
     → IsTrue (nat_lt (count_of_full current + full_count others) 2)
     → IsEnough want (take n current) (current ++ joined_segments others)
 current_is_enough want n current others is end one =
-    let few = ltb-true (count_of_full current + full_count others) 2 one in
-    let long = shown_length want n current is in
-    let none_after : joined_segments others ≡ [] = last_full current others end few in
-    omega (arith, is, long, length-append current (joined_segments others), ap length none_after)
+    search (rules, ltb-true, shown_length, last_full, length-append)
 
 nothing_full : (others : List (Bor (List ℕ))) → length (joined_segments others) ≡ 0
     → first_full others ≡ []
 nothing_full [] none = refl
 nothing_full (segment ∷ others) none =
-    ap (λ bytes. first_nonempty bytes (first_full others))
-    (nil_from_length segment.now
-    (omega (arith, none, length-append segment.now (joined_segments others))))
-    ∙ nothing_full others (omega (arith, none, length-append segment.now (joined_segments others)))
+    search (rules, nil_from_length, length-append, (nothing_full others (omega (arith, none, length-append segment.now (joined_segments others)))))
 
 -- once empty segments are passed, the current one is shown
 current_is_shown : (current : List ℕ) (others : List (Bor (List ℕ)))
@@ -99,23 +91,7 @@ shows_current old new end bytes segment count steps want n is =
     let one_left : IsTrue (nat_lt (full_of old) 2) → IsTrue (nat_lt (full_of new) 2) =
     λ one. subst (λ k. IsTrue (nat_lt k 2)) (sym count) one in
     record {
-      fills = record {
-        shows = record {
-          known = λ xs is. subst (λ rest. Some rest ≡ Some xs) (sym bytes) is;
-          bound = omega (arith, ap length bytes);
-          advanceable = omega (arith, long, is);
-          budget = ap Some steps;
-          failures = refl;
-          taken = refl;
-          zero_copy = one_left;
-          remembers = λ is. is;
-          ends_at = refl;
-        };
-        prefix = known_some (IsPrefix want shown) _ prefix;
-        enough = λ one. known_some (IsEnough want shown) _
-            (subst (λ rest. IsEnough want shown rest) bytes
-            (current_is_enough want n current others is end (one_left one)));
-      };
+      fills = search (rules, known_some, current_is_enough);
       within = prefix.within;
       size = omega (arith, long, is, ap length whole);
     }

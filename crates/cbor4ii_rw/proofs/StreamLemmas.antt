@@ -24,9 +24,7 @@ pub keeps_cut : (most most' : ℕ) (old new : Option (List ℕ)) → most' ≡ m
     → Keeps (cut_known most old) (cut_known most' new)
 keeps_cut most most' None new same kept = known_none (λ xs. cut_known most' new ≡ Some xs)
 keeps_cut most most' (Some bytes) None same kept = absurd kept
-keeps_cut most most' (Some bytes) (Some left) same kept =
-    known_some (λ xs. Some (take most' left) ≡ Some xs) (take most bytes)
-    (ap Some (ap (λ k. take k left) same ∙ ap (take most) kept))
+keeps_cut most most' (Some bytes) (Some left) same kept = search rules
 
 -- known bytes that stay known are not forgotten
 pub may_forget : (old new : Option (List ℕ)) → Keeps old new → KeepsOrForgets old new
@@ -66,33 +64,21 @@ by_bool false bytes Q q r = q
 room : (limit : Option ℕ) (shown used : ℕ) → (fits limit shown && nat_lt used (shown + 1)) ≡ true
     → IfSome limit (λ n. used ≤ n)
 room None shown used e = tt
-room (Some k) shown used e =
-    omega (arith, ltb-true shown (k + 1) (both _ _ e).0, ltb-true used (shown + 1) (both _ _ e).1)
+room (Some k) shown used e = search rules
 
 -- where the bytes are held, `consume` drops what was used
 pub held_cases : (a b : Option (List ℕ)) (limit : Option ℕ) (tally : Tally)
     → DropsConsumable a b limit tally.used → (Q : Option (List ℕ) → Type 0) → Q None
     → ((bytes : List ℕ) → b ≡ Some bytes → Q (Some bytes)) → Q (held_bytes a limit tally)
 held_cases None b limit tally drops Q q r = q
-held_cases (Some bytes) b limit tally drops Q q r = by_bool _ (drop tally.used bytes) Q q
-    (λ e. r (drop tally.used bytes) (drops (room limit tally.shown tally.used e)))
-
-indefinite_now : (limit : Option ℕ) (n : ℕ) → IfSome limit (λ k. n ≤ k)
-    → (fits limit n && nat_lt 0 (n + 1)) ≡ true
-indefinite_now None n h = lt-ltb 0 (n + 1) (omega arith)
-indefinite_now (Some k) n h = ap (λ t. t && nat_lt 0 (n + 1)) (lt-ltb n (k + 1) (omega arith))
-    ∙ lt-ltb 0 (n + 1) (omega arith)
+held_cases (Some bytes) b limit tally drops Q q r = search rules
 
 -- what the stream has is held, once nothing of what it showed is used
 pub held_now : (known : Option (List ℕ)) (limit : Option ℕ) (tally : Tally) (bytes : List ℕ)
     → tally.used ≡ 0 → KeepsKnown (Some bytes) known → IfSome limit (λ k. tally.shown ≤ k)
     → KeepsKnown (Some bytes) (held_bytes known limit tally)
 held_now None limit tally bytes none kept h = absurd kept
-held_now (Some left) limit tally bytes none kept h =
-    subst (λ used. KeepsKnown (Some bytes)
-    (where_known (fits limit tally.shown && nat_lt used (tally.shown + 1)) (drop used left)))
-    (sym none) (subst (λ t. KeepsKnown (Some bytes) (where_known t left))
-    (sym (indefinite_now limit tally.shown h)) kept)
+held_now (Some left) limit tally bytes none kept h = search rules
 
 drops_held : (n : ℕ) (known : Option (List ℕ)) (limit : Option ℕ) (before after : Tally)
     → after.shown ≡ before.shown → after.used ≡ before.used + n → n ≤ before.shown - before.used
@@ -124,10 +110,7 @@ drops_held n (Some bytes) limit before after shown used few =
 drops_cut : (n most most' : ℕ) (a b : Option (List ℕ)) → n + most' ≡ most → Drops n a b
     → Drops n (cut_known most a) (cut_known most' b)
 drops_cut n most most' None b split kept = known_none (λ xs. cut_known most' b ≡ Some (drop n xs))
-drops_cut n most most' (Some bytes) b split kept = known_some
-    (λ xs. cut_known most' b ≡ Some (drop n xs)) (take most bytes)
-    (ap (cut_known most') (kept bytes refl) ∙ ap Some (sym (drop-take n most' bytes)
-    ∙ ap (λ k. drop n (take k bytes)) split))
+drops_cut n most most' (Some bytes) b split kept = search (rules, known_some, drop-take)
 
 -- what `advance` leaves
 pub drops_left : (n : ℕ) (known : Option (List ℕ)) (limit : Option ℕ) (before after : Tally)
@@ -136,6 +119,4 @@ pub drops_left : (n : ℕ) (known : Option (List ℕ)) (limit : Option ℕ) (bef
     → Drops n (cut_known (most_bytes - before.taken) (held_bytes known limit before))
     (cut_known (most_bytes - after.taken) (held_bytes known limit after))
 drops_left n known limit before after shown used taken few room =
-    drops_cut n (most_bytes - before.taken) (most_bytes - after.taken)
-    (held_bytes known limit before) (held_bytes known limit after) (omega (arith, taken, room))
-    (drops_held n known limit before after shown used few)
+    search (rules, drops_cut, room, drops_held)

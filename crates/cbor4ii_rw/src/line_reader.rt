@@ -1,6 +1,6 @@
 //! A reader over a line of request and answer, such as a socket. It waits for the bytes that it is
 //! asked for, and for no more.
-ghost use Rattle.std.specs.Prelude.{◌≡◌, ◌↔◌, ◌≤◌, ◌+◌, ◌-◌, min, None, Some, IsTrue, IfOk};
+ghost use Rattle.std.specs.Prelude.{◌≡◌, ◌↔◌, ◌≤◌, ◌+◌, ◌-◌, min, None, Some, IsTrue, IfOk, IfErr};
 ghost use Rattle.std.specs.Prelude.{MatchOption, drop, vec_len};
 ghost use Rattle.std.specs.Borrow.{sem};
 ghost use Rattle.std.specs.Io.BufRead.{Rests};
@@ -150,12 +150,15 @@ impl<L: Line + Drop> LineReader<L> {
     ///
     /// # Errors
     ///
-    /// The line's own error, which is counted.
+    /// The line's own error, which is counted. What came before it stays ready.
     pub fn is_closed(&mut self) -> Result<bool, L::Error>
         ensures closed { IfOk result
             (λ closed. IsTrue closed ↔ ((line_view self.new).advanceable ≡ 0)) }
         ensures taken { taken_of self.new ≡ taken_of self.old }
         ensures budget { (line_view self.new).budget ≡ (line_view self.old).budget }
+        ensures failures { IfOk result
+            (λ _. (line_view self.new).failures ≡ (line_view self.old).failures) }
+        ensures failed { IfErr result (λ _. ReaderFails (line_view self.old) (line_view self.new)) }
     {
         match self.wait(1) {
             None => Ok(self.ready.count == 0),

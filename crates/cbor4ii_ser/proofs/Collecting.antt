@@ -1,6 +1,6 @@
 -- A text in pieces, as an item.
 use Rattle.std.proofs.Common.{◌≡◌, ℕ, List, ◌++◌, Option, None, Some, Result, Ok, Err, Bool, true}
-use Rattle.std.proofs.Common.{false, refl, sym, ap, subst, ◌⊎◌, inl, inr, IsSome}
+use Rattle.std.proofs.Common.{false, refl, sym, ap, subst, ◌⊎◌, inl, inr, IsSome, rules}
 use Rattle.std.proofs.Math.Seq.{take-length}
 use Rattle.std.specs.Prelude.{codes}
 use denote.Ref.{Bor}
@@ -40,17 +40,12 @@ flushed {whole = whole} {ps = ps} {a = a} {b = b} {n = n} {r = r} fine start w f
     (flushed_on ps a.pending b.pending a.output b.output n b.failure r (w.writes fine)
     (w.pends fine) f.ends f.fails)
 
-none_some : {E : Type 0} (o : Option E) → o ≡ None → IsSome o → ⊥
-none_some None is h = cc
-none_some (Some e) is h = cc
-
 module _ {E : Type 0} {whole : Bool} where
   pub collected_ok : (fails_itself : Bool) (ps : List (List ℕ)) {o n : Output} {u : Unit {0}}
       → fails_itself ≡ false → Writes {E = core.EncodeError E} whole (text_bytes ps) o n (Ok u)
       → Serializes {T = Unit {0}} {E = E} whole (text_encoding fails_itself ps) o n (Ok tt)
   collected_ok true ps is w = absurd (cc)
-  collected_ok false ps is w =
-      record { appends = w.appends; counts = w.counts; failed = tt; prefix = λ whole. tt }
+  collected_ok false ps is w = search rules
 
   -- the writer failed at the end of the text
   pub collected_err : (fails_itself : Bool) (ps : List (List ℕ)) {o n : Output} {e :
@@ -58,8 +53,7 @@ module _ {E : Type 0} {whole : Bool} where
       → fails_itself ≡ false → Writes {T = Unit {0}} whole (text_bytes ps) o n (Err e)
       → Serializes {T = Unit {0}} {E = E} whole (text_encoding fails_itself ps) o n (Err (Core e))
   collected_err true ps is w = absurd (cc)
-  collected_err false ps is w =
-      record { appends = tt; counts = tt; failed = w.failed; prefix = w.prefix }
+  collected_err false ps is w = search rules
 
   -- the writer failed in one of the pieces
   pub collected_failed : (fails_itself : Bool) {ps : List (List ℕ)} {a b : TextSeen
@@ -67,18 +61,10 @@ module _ {E : Type 0} {whole : Bool} where
       (e : core.EncodeError E) → b.failure ≡ Some e → a.failure ≡ None → a.pending ≡ nothing_yet
       → Wrote whole ps a b → Serializes {T = Unit {0}}
       {E = E} whole (text_encoding fails_itself ps) a.output b.output (Err (Core e))
-  collected_failed true {ps = ps} {a = a} {b = b} e is fine start w =
-      let at : Writes whole (unended_bytes ps) a.output b.output (Err e) =
-      subst (λ z. Writes whole (unended_bytes ps) a.output b.output (writing_outcome z)) is
-      (subst (λ z. Writes whole (pieces_bytes z ps) a.output b.output
-      (writing_outcome b.failure)) start
-      (w.writes fine)) in
-      record { appends = tt; counts = tt; failed = at.failed; prefix = at.prefix }
+  collected_failed true {ps = ps} {a = a} {b = b} e is fine start w = search rules
   collected_failed false {ps = ps} {a = a} {b = b} e is fine start w =
       let at : Writes whole (pieces_bytes a.pending ps) a.output b.output
-      (writing_outcome (Some e)) =
-      subst (λ z. Writes whole (pieces_bytes a.pending ps) a.output b.output (writing_outcome z)) is
-      (w.writes fine) in
+      (writing_outcome (Some e)) = search rules in
       collected_err false ps refl
       (writes_as (Err e) (ap (λ z. pieces_bytes z ps ++ last_bytes (after z ps)) start)
       (writes_err (last_bytes (after a.pending ps)) at))
@@ -103,5 +89,4 @@ module _ {E : Type 0} {whole : Bool} where
             (unended_bytes ps, take-length (unended_bytes ps), at.appends held known);
       }
   collected_rejected false text said is fine start (inl h) w = absurd (cc)
-  collected_rejected false {b = b} text said is fine start (inr h) w =
-      absurd (none_some b.failure is h)
+  collected_rejected false {b = b} text said is fine start (inr h) w = search rules

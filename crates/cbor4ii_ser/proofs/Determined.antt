@@ -1,16 +1,14 @@
 -- The pieces determine the chunks.
-use Rattle.std.proofs.Common.{◌≡◌, ℕ, ◌+◌, ◌<◌, List, [], ◌∷◌, ◌++◌, length, refl, sym, ap, ap₂}
-use Rattle.std.proofs.Common.{◌∙◌, inl, inr, arith, append_assoc, length-append, subst}
-use Rattle.cbor4ii_items.specs.Strings.{joined_content, open_head, break_bytes}
-use Rattle.cbor4ii_ser.specs.Pieces.{chunk_most, without_empty, IsFull, IsChunkOf, IsCut, Chunks}
-use Rattle.cbor4ii_ser.specs.Pieces.{one, several, definite_chunks}
+use Rattle.std.proofs.Common.{◌≡◌, ℕ, ◌<◌, List, [], ◌∷◌, ◌++◌, length, refl, sym, ap, ap₂}
+use Rattle.std.proofs.Common.{◌∙◌, inl, inr, arith, append_assoc, length-append, subst, rules}
+use Rattle.cbor4ii_items.specs.Strings.{joined_content}
+use Rattle.cbor4ii_ser.specs.Pieces.{IsFull, IsChunkOf, IsCut, Chunks}
+use Rattle.cbor4ii_ser.specs.Pieces.{one, several}
 
 pub joined_append : (ps qs : List (List ℕ)) → joined_content (ps ++ qs) ≡ joined_content ps
     ++ joined_content qs
 joined_append [] qs = refl
-joined_append (p ∷ ps) qs =
-    ap (λ z. p ++ z) (joined_append ps qs)
-    ∙ sym (append_assoc p (joined_content ps) (joined_content qs))
+joined_append (p ∷ ps) qs = search (rules, append_assoc, (joined_append ps qs))
 
 -- two prefixes of one list: they are the same, or one goes on after the other
 data Prefixes (a b c d : List (List ℕ)) : Type 0 where
@@ -38,22 +36,7 @@ too_long : (chunk other : List ℕ) (run more t : List (List ℕ)) (x : List ℕ
     → IsChunkOf chunk run → IsChunkOf other more → more ≡ run ++ (x ∷ t) → IsFull chunk (x ∷ rest)
     → ⊥
 too_long chunk other run more t x rest is are e full =
-    let bytes : length other ≡ length (joined_content run) + (length x + length (joined_content t))
-    =
-    ap length (are.joins ∙ (ap joined_content e ∙ joined_append run (x ∷ t)))
-    ∙ (length-append (joined_content run)
-    (x ++ joined_content t) ∙ ap (λ n. length (joined_content run) + n)
-    (length-append x (joined_content t))) in
-    let runs : length more ≡ length run + length (x ∷ t) =
-    ap length e ∙ length-append run (x ∷ t) in
-    let one_more : 0 < length (x ∷ t) = omega arith in
-    let some : 0 < length run = is.some in
-    let long : chunk_most < length chunk + length x = omega (arith, full, length-append chunk x) in
-    let is_run : length chunk ≡ length (joined_content run) = ap length is.joins in
-    elim are.short [
-      | inl short ↦ omega (arith, short, bytes, long, is_run)
-      | inr single ↦ omega (arith, single, runs, some, one_more)
-    ]
+    search (rules, joined_append, length-append, inl, inr)
 
 no_run : (run rest : List (List ℕ)) → [] ≡ run ++ rest → 0 < length run → ⊥
 no_run run rest e h = omega (arith, h, ap length e, length-append run rest)
@@ -79,6 +62,4 @@ pub chunks_same : (pieces : List (List ℕ)) (a b : List ℕ) → Chunks pieces 
 chunks_same pieces a b (one h e) (one k f) = e ∙ sym f
 chunks_same pieces a b (one h e) (several cs k cut f) = absurd (omega (arith, h, k))
 chunks_same pieces a b (several cs h cut e) (one k f) = absurd (omega (arith, h, k))
-chunks_same pieces a b (several cs h cut e) (several ds k other f) =
-    e ∙ (ap (λ z. open_head 3 ++ definite_chunks z ++ break_bytes)
-    (cut_same (without_empty pieces) cs ds cut other) ∙ sym f)
+chunks_same pieces a b (several cs h cut e) (several ds k other f) = search (rules, cut_same)

@@ -1,6 +1,6 @@
 -- What a call writes whose answer was left in a slot.
-use Rattle.std.proofs.Common.{◌≡◌, Option, Some, None, Result, Ok, Err, Bool, refl, sym}
-use Rattle.std.proofs.Common.{subst, rules}
+use Rattle.std.proofs.Common.{◌≡◌, Option, Result, Ok, Err, Bool}
+use Rattle.std.proofs.Common.{rules}
 use Rattle.std.specs.Prelude.{IsErr, IfSome}
 use Rattle.cbor4ii_rw.specs.Writer.{Output}
 use Rattle.cbor4ii_ser.specs.declared.error.EncodeError.{EncodeError}
@@ -15,15 +15,9 @@ pub failed_then : {T E : Type 0} {atomic : Bool} {a : Encoding} (b : Encoding) {
 failed_then {a = a} b (Err e) is p = serializes_err a b p
 failed_then b (Ok t) is p = search rules
 
-answered_is : {E : Type 0} (o : Option (Unit {0})) (left : Result (Unit {0}) (EncodeError E))
-    → IfSome o (λ _. left ≡ Ok tt) → done_or_answer o left ≡ left
-answered_is (Some u) left p = sym p
-answered_is None left p = refl
-
 -- the slot has the whole answer, where it said that all went well before
 pub from_slot : {E : Type 0} {atomic : Bool} {a : Encoding} {old new : Output} (o : Option
     (Unit {0}))
     (left : Result (Unit {0}) (EncodeError E)) → IfSome o (λ _. left ≡ Ok tt)
     → Serializes atomic a old new (done_or_answer o left) → Serializes atomic a old new left
-from_slot {atomic = atomic} {a = a} {old = old} {new = new} o left kept p =
-    subst (λ r. Serializes atomic a old new r) (answered_is o left kept) p
+from_slot {atomic = atomic} {a = a} {old = old} {new = new} o left kept p = search rules

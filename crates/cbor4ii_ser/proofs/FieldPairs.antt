@@ -1,9 +1,9 @@
 -- Fields that are written from a list.
 use Rattle.std.proofs.Common.{◌≡◌, ◌≤◌, ◌-◌, ℕ, suc, List, [], ◌∷◌, ◌++◌, length, take, drop}
 use Rattle.std.proofs.Common.{get_or}
-use Rattle.std.proofs.Common.{refl, sym, ap, ◌∙◌, arith}
+use Rattle.std.proofs.Common.{refl, ap, ◌∙◌, arith, rules}
 use Rattle.std.proofs.Math.Seq.{take-length}
-use Rattle.cbor4ii_ser.specs.Item.{Encoding, encoded, one_then, parts}
+use Rattle.cbor4ii_ser.specs.Item.{encoded, one_then, parts}
 use Rattle.cbor4ii_ser.specs.Listed.{NamedItems, StandsBeforeOthers, keyed_pairs, keyed_encoding}
 use Rattle.cbor4ii_ser.specs.Listed.{labels_of}
 use Rattle.cbor4ii_ser.specs.Listed.{◌▹◌}
@@ -18,17 +18,13 @@ entries_count key (part ∷ items) = ap suc (entries_count key items)
 entries_append : (key : List ℕ → List ℕ) (first others : NamedItems)
     → keyed_pairs key (first ++ others) ≡ keyed_pairs key first ++ keyed_pairs key others
 entries_append key [] others = refl
-entries_append key (part ∷ first) others =
-    ap (λ (es : List Encoding). one_then (encoded (key part.0)) part.1 ∷ es)
-    (entries_append key first others)
+entries_append key (part ∷ first) others = search (rules, (entries_append key first others))
 
 -- the head of as many pairs as there are
 pub counted : (key : List ℕ → List ℕ) (items : NamedItems) (count : ℕ) → count ≡ length items
     → one_then (encoded (shortest_head 5 count)) (parts (keyed_pairs key items))
     ≡ keyed_encoding key items
-counted key items count is =
-    ap (λ n. one_then (encoded (shortest_head 5 n)) (parts (keyed_pairs key items)))
-    (is ∙ sym (entries_count key items))
+counted key items count is = search (rules, entries_count)
 
 module _ {P : Type 0} (first : P → List ℕ → NamedItems → NamedItems) (joins : StandsBeforeOthers
     first)
@@ -36,11 +32,7 @@ module _ {P : Type 0} (first : P → List ℕ → NamedItems → NamedItems) (jo
   first_then : (v : P) (label : List ℕ) (others : NamedItems)
       → one_then (parts (keyed_pairs key (first v label []))) (parts (keyed_pairs key others))
       ≡ parts (keyed_pairs key (first v label others))
-  first_then v label others =
-      sym (ap (λ items. parts (keyed_pairs key items)) (joins v label others)
-      ∙ (ap parts (entries_append key (first v label []) others)
-      ∙ items_append (λ part. part) (keyed_pairs key (first v label []))
-      (keyed_pairs key others)))
+  first_then v label others = search (rules, entries_append, items_append)
 
   -- a field, and those after it
   pub field_then : {K V : Type 0} (label : K → List ℕ) (others : V → List (List ℕ) → NamedItems)

@@ -1,11 +1,11 @@
 -- What is written piece by piece is cut into chunks.
 use Rattle.std.proofs.Common.{◌≡◌, ℕ, ◌+◌, ◌<◌, ◌≤◌, Bool, true, false, nat_le, List, [], ◌∷◌, ◌++◌}
 use Rattle.std.proofs.Common.{length, refl, sym, ap, ◌∙◌, inl, inr, arith, append_assoc}
-use Rattle.std.proofs.Common.{length-append, subst}
+use Rattle.std.proofs.Common.{length-append, subst, rules}
 use Rattle.std.proofs.lemmas.List.{append-nil}
 use Rattle.std.proofs.lemmas.Bool.{leb-false, leb-true}
 use Rattle.cbor4ii_items.specs.Strings.{joined_content, definite_string, open_head, break_bytes}
-use Rattle.cbor4ii_ser.specs.Pieces.{chunk_most, without_empty, IsFull, IsCut, Chunks, one, several}
+use Rattle.cbor4ii_ser.specs.Pieces.{chunk_most, without_empty, IsFull, IsCut, Chunks, several}
 use Rattle.cbor4ii_ser.specs.Pieces.{definite_chunks, Pending, piece_fits_after, run_bytes}
 use Rattle.cbor4ii_ser.specs.Pieces.{long_bytes}
 use Rattle.cbor4ii_ser.specs.Pieces.{piece_bytes, piece_pending, held_piece, pieces_bytes, after}
@@ -57,15 +57,13 @@ Cuts pieces bytes =
     (chunks : List (List ℕ)) × IsCut pieces chunks × (bytes ≡ definite_chunks chunks ++ break_bytes)
 
 cuts_as : {ps qs : List (List ℕ)} {a b : List ℕ} → ps ≡ qs → a ≡ b → Cuts ps a → Cuts qs b
-cuts_as {ps = ps} {qs = qs} {a = a} {b = b} e f p =
-    (p.0, subst (λ z. IsCut z p.0) e p.1, sym f ∙ p.2)
+cuts_as {ps = ps} {qs = qs} {a = a} {b = b} e f p = search rules
 
 -- a run that is held back, as a chunk before others
 with_run : (fs : List (List ℕ)) (run : List ℕ) (rest : List (List ℕ)) (bytes : List ℕ)
     → run ≡ joined_content fs → (run ≡ [] → fs ≡ []) → length run ≤ chunk_most → IsFull run rest
     → Cuts rest bytes → Cuts (fs ++ rest) (run_bytes run ++ bytes)
-with_run fs [] rest bytes is empty short full p =
-    cuts_as (ap (λ z. z ++ rest) (sym (empty refl))) refl p
+with_run fs [] rest bytes is empty short full p = search rules
 with_run [] (b ∷ bs) rest bytes is empty short full p = absurd (cc)
 with_run (f ∷ fs) (b ∷ bs) rest bytes is empty short full p =
     let some : 0 < length (f ∷ fs) = omega arith in (
@@ -79,8 +77,7 @@ with_held : (us rest : List (List ℕ)) (bytes : List ℕ) → length (joined_co
     → IsFull (joined_content us) rest → Cuts rest bytes
     → Cuts (without_empty us ++ rest) (run_bytes (joined_content us) ++ bytes)
 with_held us rest bytes short full p =
-    with_run (without_empty us) (joined_content us) rest bytes (sym (joined_without_empty us))
-    (none_without_empty us) short full p
+    search (rules, with_run, joined_without_empty, none_without_empty)
 
 -- a long piece, as a chunk before others
 with_long : (a : List ℕ) (rest : List (List ℕ)) (bytes : List ℕ) → IsFull a rest → Cuts rest bytes
@@ -148,20 +145,12 @@ cut_at : (t : Bool) (us : List (List ℕ)) (a : List ℕ) (ps : List (List ℕ))
     (encoded_at t (run_of true (joined_content us)) a ps)
 cut_at true us a ps is short rec =
     let fit : length (joined_content (us ++ (a ∷ []))) ≤ chunk_most =
-    omega (
-      arith,
-      leb-true (length (joined_content us) + length a) chunk_most is,
-      ap length (joined_one us a),
-      length-append (joined_content us) a,
-    ) in
+    search (rules, leb-true, joined_one, length-append) in
     cuts_as (ap (λ z. z ++ without_empty ps) (without_empty_append us (a ∷ []))
     ∙ (append_assoc (without_empty us) (without_empty (a ∷ [])) (without_empty ps)
     ∙ ap (λ z. without_empty us ++ z) (sym (without_empty_append (a ∷ []) ps))))
     (ap (λ z. of_tree (run_of true z) ps) (joined_one us a)) (rec (us ++ (a ∷ [])) fit)
-cut_at false us [] ps is short rec =
-    let long : chunk_most < length (joined_content us) + 0 =
-    leb-false (length (joined_content us) + 0) chunk_most is in
-    absurd (omega (arith, long, short))
+cut_at false us [] ps is short rec = search rules
 cut_at false us (b ∷ bs) ps is short rec =
     let long : chunk_most < length (joined_content us) + length (b ∷ bs) =
     leb-false (length (joined_content us) + length (b ∷ bs)) chunk_most is in
@@ -195,12 +184,7 @@ chunks_at : (t : Bool) (us : List (List ℕ)) (a : List ℕ) (ps : List (List �
     → Chunks (us ++ (a ∷ ps)) (encoded_at t (run_of false (joined_content us)) a ps)
 chunks_at true us a ps is short rec =
     let fit : length (joined_content (us ++ (a ∷ []))) ≤ chunk_most =
-    omega (
-      arith,
-      leb-true (length (joined_content us) + length a) chunk_most is,
-      ap length (joined_one us a),
-      length-append (joined_content us) a,
-    ) in
+    search (rules, leb-true, joined_one, length-append) in
     subst (λ z. Chunks z (of_tree (run_of false (joined_content us ++ a)) ps))
     (append_assoc us (a ∷ []) ps)
     (subst (λ z. Chunks ((us ++ (a ∷ [])) ++ ps) (of_tree (run_of false z) ps)) (joined_one us a)
@@ -209,13 +193,7 @@ chunks_at false us a ps is short rec =
     let long : chunk_most < length (joined_content us) + length a =
     leb-false (length (joined_content us) + length a) chunk_most is in
     let total : chunk_most < length (joined_content (us ++ (a ∷ ps))) =
-    omega (
-      arith,
-      long,
-      ap length (joined_append us (a ∷ ps)),
-      length-append (joined_content us) (a ++ joined_content ps),
-      length-append a (joined_content ps),
-    ) in
+    search (rules, joined_append, length-append) in
     let p = cut_at false us a ps is short (λ vs h. cut_on ps vs h) in
     several p.0 total (subst (λ z. IsCut z p.0) (sym (without_empty_append us (a ∷ ps))) p.1)
     (begun_at (joined_content us) a ps ∙ (ap (λ z. open_head 3 ++ z) p.2
@@ -223,11 +201,7 @@ chunks_at false us a ps is short rec =
 
 chunks_on : (ps us : List (List ℕ)) → length (joined_content us) ≤ chunk_most
     → Chunks (us ++ ps) (of_tree (run_of false (joined_content us)) ps)
-chunks_on [] us short =
-    let is : joined_content (us ++ []) ≡ joined_content us = ap joined_content (append-nil us) in
-    let fit : length (joined_content (us ++ [])) ≤ chunk_most = omega (arith, ap length is, short)
-    in
-    one fit (encoded_nil (run_of false (joined_content us)) ∙ ap (definite_string 3) (sym is))
+chunks_on [] us short = search (rules, append-nil, encoded_nil)
 chunks_on (a ∷ ps) us short =
     subst (Chunks (us ++ (a ∷ ps))) (sym (encoded_cons (run_of false (joined_content us)) a ps))
     (chunks_at (piece_fits_after (run_of false (joined_content us)) a) us a ps refl short

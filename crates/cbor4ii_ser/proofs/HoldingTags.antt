@@ -1,6 +1,6 @@
 -- Whether a tag stands in one of several values.
 use Rattle.std.proofs.Common.{◌≡◌, ℕ, ◌+◌, ◌<◌, List, [], ◌∷◌, ◌++◌, length, take, drop, get_or}
-use Rattle.std.proofs.Common.{Bool, true, false, ◌||◌, refl, sym, ap, ap₂, ◌∙◌}
+use Rattle.std.proofs.Common.{Bool, true, false, ◌||◌, refl, sym, ap, ap₂, ◌∙◌, rules}
 use Rattle.std.proofs.lemmas.List.{take_more, take-append-drop}
 use Rattle.cbor4ii_tree.specs.Basis.View.{view, items_view, pairs_view}
 use Rattle.cbor4ii_tree.specs.declared.value.Value.{Value}
@@ -25,8 +25,7 @@ module _ {V : Type 0} (test : V → Bool) where
 
   some_append : (us ws : List V) → some (us ++ ws) ≡ (some us || some ws)
   some_append [] ws = refl
-  some_append (u ∷ us) ws =
-      ap (λ z. test u || z) (some_append us ws) ∙ sym (or_assoc (test u) (some us) (some ws))
+  some_append (u ∷ us) ws = search (rules, or_assoc, (some_append us ws))
 
   some_more : (xs : List V) (i : ℕ) (x : V) → i < length xs → x ≡ get_or xs i x
       → some (take (i + 1) xs) ≡ (some (take i xs) || test x)
@@ -56,9 +55,7 @@ items_some (v ∷ vs) = ap (λ z. holds_tag (view v) || z) (items_some vs)
 pub items_none : (xs : List Value) (i : ℕ) (x : Value) → i < length xs → x ≡ get_or xs i x
     → some_holds_tag (items_view (take i xs)) ≡ false → holds_tag (view x) ≡ false
     → some_holds_tag (items_view (take (i + 1) xs)) ≡ false
-items_none xs i x lt is h k =
-    items_some (take (i + 1) xs)
-    ∙ none_more (λ v. holds_tag (view v)) xs i x lt is (sym (items_some (take i xs)) ∙ h) k
+items_none xs i x lt is h k = search (rules, items_some, none_more)
 
 pub items_found : (xs : List Value) (i : ℕ) (x : Value) → i < length xs → x ≡ get_or xs i x
     → holds_tag (view x) ≡ true → some_holds_tag (items_view xs) ≡ true
@@ -69,24 +66,17 @@ items_found xs i x lt is h = items_some xs ∙ one_found (λ v. holds_tag (view 
 pairs_some : (ms : List (Value × Value)) → pairs_hold_tag (pairs_view ms) ≡ some
     (λ m. holds_tag (view m.0) || holds_tag (view m.1)) ms
 pairs_some [] = refl
-pairs_some (m ∷ ms) =
-    ap (λ z. (holds_tag (view m.0) || holds_tag (view m.1)) || z) (pairs_some ms)
+pairs_some (m ∷ ms) = search (rules, (pairs_some ms))
 
 module _ (xs : List (Value × Value)) (i : ℕ) (x : Value × Value) (lt : i < length xs)
     (is : x ≡ get_or xs i x) where
   pub pairs_none : pairs_hold_tag (pairs_view (take i xs)) ≡ false
       → holds_tag (view x.0) ≡ false → holds_tag (view x.1) ≡ false
       → pairs_hold_tag (pairs_view (take (i + 1) xs)) ≡ false
-  pairs_none h k l =
-      pairs_some (take (i + 1) xs) ∙ none_more (λ m. holds_tag (view m.0) || holds_tag (view m.1))
-      xs i x lt is (sym (pairs_some (take i xs)) ∙ h) (ap₂ (λ a b. a || b) k l)
+  pairs_none h k l = search (rules, pairs_some, none_more)
 
   pub key_found : holds_tag (view x.0) ≡ true → pairs_hold_tag (pairs_view xs) ≡ true
-  key_found h =
-      pairs_some xs ∙ one_found (λ m. holds_tag (view m.0) || holds_tag (view m.1)) xs i x lt is
-      (ap (λ a. a || holds_tag (view x.1)) h)
+  key_found h = search (rules, pairs_some, one_found)
 
   pub value_found : holds_tag (view x.1) ≡ true → pairs_hold_tag (pairs_view xs) ≡ true
-  value_found h =
-      pairs_some xs ∙ one_found (λ m. holds_tag (view m.0) || holds_tag (view m.1)) xs i x lt is
-      (ap (λ b. holds_tag (view x.0) || b) h ∙ or_true (holds_tag (view x.0)))
+  value_found h = search (rules, pairs_some, one_found, or_true)

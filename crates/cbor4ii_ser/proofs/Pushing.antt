@@ -1,6 +1,6 @@
 -- One call after another that leave their error in a slot.
 use Rattle.std.proofs.Common.{◌≡◌, Option, Some, None, Result, Ok, Bool, sym, ◌∙◌}
-use Rattle.std.proofs.Common.{subst, List, [], ℕ, ◌++◌}
+use Rattle.std.proofs.Common.{subst, List, [], ℕ, ◌++◌, rules}
 use Rattle.std.specs.Prelude.{IfSome}
 use Rattle.cbor4ii_rw.specs.Writer.{Output}
 use Rattle.cbor4ii_ser.specs.declared.error.EncodeError.{EncodeError}
@@ -32,12 +32,7 @@ pub pushes_as : {E : Type 0} {one atomic : Bool} {a b : Encoding} {old new : Out
     {o : Option (Unit {0})} {before after : Result (Unit {0}) (EncodeError E)} → a ≡ b
     → Pushes one atomic a old new o before after → PushesInTurn atomic b old new o before after
 pushes_as {atomic = atomic} {old = old} {new = new} {o = o} {before = before} {after = after} is p =
-    subst (λ z. PushesInTurn atomic z old new o before after) is (record {
-      writes = p.writes;
-      whole = tt;
-      failed = p.failed;
-      kept = p.kept;
-    })
+    search rules
 
 -- the first part failed, and this was handed on
 pub pushes_out : {E : Type 0} {one atomic : Bool} {a : Encoding} (b : Encoding) {old new : Output}

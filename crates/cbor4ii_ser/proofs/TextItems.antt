@@ -1,6 +1,6 @@
 -- A text in pieces is one item.
 use Rattle.std.proofs.Common.{◌≡◌, ℕ, ◌<◌, ◌≤◌, ◌^◌, List, [], ◌∷◌, ◌++◌, length, Bool, true, false}
-use Rattle.std.proofs.Common.{refl, sym, ap, ◌∙◌, subst, arith}
+use Rattle.std.proofs.Common.{refl, sym, ap, ◌∙◌, subst, rules}
 use Rattle.std.specs.Prelude.{All, IsUtf8}
 use Rattle.cbor4ii_items.specs.Head.{shortest_width}
 use Rattle.cbor4ii_items.specs.Initial.{text_string}
@@ -10,7 +10,7 @@ use Rattle.cbor4ii_tree.specs.Basis.Tree.{string, chunked, Trees, no_trees, tree
 use Rattle.cbor4ii_tree.specs.Basis.Tree.{joined_chunks, LooseAll, AreChunks}
 use Rattle.cbor4ii_ser.specs.OneItem.{AllShortestHeads, Form, shortest_heads, OneItem, IsOneItem}
 use Rattle.cbor4ii_ser.specs.Pieces.{chunk_most, without_empty, Chunks, one, several}
-use Rattle.cbor4ii_ser.specs.Pieces.{definite_chunks, text_bytes}
+use Rattle.cbor4ii_ser.specs.Pieces.{definite_chunks}
 use Rattle.cbor4ii_ser.specs.TextState.{text_encoding}
 use Rattle.cbor4ii_ser.specs.Laws.OneItem.{text_is_item}
 use Rattle.cbor4ii_ser.proofs.Greedy.{joined_without_empty, chunks_written}
@@ -45,19 +45,14 @@ chunks_are_item : (cs : List (List ℕ)) → AllShort cs → IsUtf8 (joined_cont
     → OneItem shortest_heads (open_head 3 ++ definite_chunks cs ++ break_bytes)
 chunks_are_item cs short utf8 = record {
   of_tree = chunked text_string (chunk_trees cs);
-  formed = (
-    (loose_chunks cs short, (are_chunks cs, subst IsUtf8 (sym (joined_trees cs)) utf8)),
-    shortest_chunks cs,
-  );
+  formed = search (rules, loose_chunks, are_chunks, joined_trees, shortest_chunks);
   bytes_are = ap (λ zs. open_head 3 ++ (zs ++ break_bytes)) (bytes_trees cs);
 }
 
 pieces_are_item : (pieces : List (List ℕ)) (bytes : List ℕ) → length (joined_content pieces) < 2 ^
     64
     → All IsUtf8 pieces → Chunks pieces bytes → OneItem shortest_heads bytes
-pieces_are_item pieces bytes fits utf8 (one short e) =
-    subst (OneItem shortest_heads) (sym e)
-    (text_is_item shortest_heads (joined_content pieces) fits (utf8_joined pieces utf8))
+pieces_are_item pieces bytes fits utf8 (one short e) = search (rules, text_is_item, utf8_joined)
 pieces_are_item pieces bytes fits utf8 (several cs long cut e) =
     let is : joined_content pieces ≡ joined_content cs =
     sym (joined_without_empty pieces) ∙ joined_cut (without_empty pieces) cs cut in
@@ -69,21 +64,17 @@ pub text_in_pieces_is_item : (fails_itself : Bool) (pieces : List (List ℕ))
     → length (joined_content pieces) < 2 ^ 64 → All IsUtf8 pieces
     → IsOneItem shortest_heads (text_encoding fails_itself pieces)
 text_in_pieces_is_item true pieces fits utf8 = tt
-text_in_pieces_is_item false pieces fits utf8 =
-    pieces_are_item pieces (text_bytes pieces) fits utf8 (chunks_written pieces)
+text_in_pieces_is_item false pieces fits utf8 = search (rules, pieces_are_item, chunks_written)
 
 short_are_item : (form : Form) (pieces : List (List ℕ)) (bytes : List ℕ)
     → length (joined_content pieces) ≤ chunk_most → All IsUtf8 pieces → Chunks pieces bytes
     → OneItem form bytes
 short_are_item form pieces bytes fits utf8 (one short e) =
-    subst (OneItem form) (sym e)
-    (text_is_item form (joined_content pieces) (omega (arith, fits)) (utf8_joined pieces utf8))
-short_are_item form pieces bytes fits utf8 (several cs long cut e) =
-    absurd (omega (arith, fits, long))
+    search (rules, text_is_item, utf8_joined)
+short_are_item form pieces bytes fits utf8 (several cs long cut e) = search rules
 
 pub short_text_is_item : (form : Form) (fails_itself : Bool) (pieces : List (List ℕ))
     → length (joined_content pieces) ≤ chunk_most → All IsUtf8 pieces
     → IsOneItem form (text_encoding fails_itself pieces)
 short_text_is_item form true pieces fits utf8 = tt
-short_text_is_item form false pieces fits utf8 =
-    short_are_item form pieces (text_bytes pieces) fits utf8 (chunks_written pieces)
+short_text_is_item form false pieces fits utf8 = search (rules, short_are_item, chunks_written)

@@ -61,6 +61,11 @@ fn takes_memory(command: Command) -> bool {
     command == Command::Canon || command == Command::Strict
 }
 
+// What was written for this input is this.
+fn is_written(rt: &impl Abort, output: &Output, want: &[u8], input: &[u8]) {
+    assert_eq!(rt; output.written.as_slice(), want, "at {:?}", input);
+}
+
 // What was written is what stands for the items before `at`, and was flushed where a flush can be.
 fn check_prefix(rt: &impl Abort, row: &Row, at: u64, output: &Output) {
     let item = row.item_read(at);
@@ -85,12 +90,7 @@ fn runs_whole(
     let output = Output::new(rt.alloc())?;
     let (outcome, output) = runs(rt, row, width, good_reads, output)?;
     assert_eq!(rt; outcome, row.outcome(), "at {:?}", row.input);
-    assert_eq!(rt;
-        output.written.as_slice(),
-        row.written,
-        "at {:?}",
-        row.input
-    );
+    is_written(rt, &output, row.written, row.input);
     assert_eq!(rt; output.flushed, row.written.len(), "at {:?}", row.input);
     Ok(())
 }
@@ -227,12 +227,7 @@ fn flush_fails(rt: &(impl Abort + AllocGlobal), row: &Row, width: usize) -> io::
     output.stays = true;
     let (outcome, output) = runs(rt, row, width, usize::MAX, output)?;
     assert_eq!(rt; outcome, row.unflushed(), "at {:?}", row.input);
-    assert_eq!(rt;
-        output.written.as_slice(),
-        row.written,
-        "at {:?}",
-        row.input
-    );
+    is_written(rt, &output, row.written, row.input);
     Ok(())
 }
 

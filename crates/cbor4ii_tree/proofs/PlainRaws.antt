@@ -1,4 +1,5 @@
 -- An input that is kept as its bytes, where it is read as a value.
+use Rattle.std.proofs.Common.{rules}
 use Rattle.std.proofs.Common.{◌≡◌, ℕ, List, take, Option, Some, Result, Ok, Err, refl, sym, subst}
 use Rattle.std.specs.Result.{IsErrAnd}
 use Rattle.cbor4ii_rw.specs.View.{View}
@@ -39,11 +40,7 @@ at_err : {E : Type 0} (bytes : List ℕ) (w : WholeError (DecodeError E))
     → DecodesWhole value_format bytes (Err w) → DecodesWhole plain_raw_format bytes (Err w)
 at_err bytes (Decode e) d =
     record { accepts = tt; trailing = tt; rejects = not_begun bytes e d.rejects }
-at_err bytes (Trailing left) d = record {
-  accepts = tt;
-  trailing = (trails bytes left d.trailing.0, none_whole bytes d.trailing.1);
-  rejects = tt;
-}
+at_err bytes (Trailing left) d = search (rules, trails, none_whole)
 
 pub rejected : {E : Type 0} (bytes : List ℕ) (w : WholeError (DecodeError E)) → DecodesWhole
     value_format bytes (Err w) → (r : Result PlainRawValue (WholeError (DecodeError E)))

@@ -1,6 +1,6 @@
 -- What is answered of a slice that is read as one item.
-use Rattle.std.proofs.Common.{◌≡◌, ◌≤◌, ◌+◌, ℕ, List, [], length, drop, Some, Result, Ok, Err, inl}
-use Rattle.std.proofs.Common.{refl, sym, ap, ◌∙◌, subst, arith, take, take-append-drop, IsTrue}
+use Rattle.std.proofs.Common.{rules, ◌≡◌, ◌≤◌, ℕ, List, [], drop, Some, Result, Ok, Err, inl, refl}
+use Rattle.std.proofs.Common.{sym, ◌∙◌, subst, take-append-drop, IsTrue}
 use Rattle.std.proofs.{Common.{append-nil, Bool}, Math.Seq.drop-length, lemmas.List.length-drop}
 use Rattle.std.specs.{Prelude.{IfOk, IfErr}, Result.IsErrAnd, declared.string.ParseError.Infallible}
 use Rattle.cbor4ii_rw.specs.{Input.limit, View.View, declared.error.DecodeError.DecodeError}
@@ -18,9 +18,9 @@ use Rattle.cbor4ii_tree.specs.{Calls.Promises.value_format, Basis.View.view}
 use Rattle.cbor4ii_tree.specs.Calls.ReadingRejects.{ReadingRejects}
 use Rattle.cbor4ii_tree.specs.declared.decode_canonical.Canonical.{Canonical}
 use Rattle.cbor4ii_tree.specs.declared.value.Value.{Value}
-use Rattle.cbor4ii_tree.proofs.canonical.Decoding.{as_read, canonical_or}
+use Rattle.cbor4ii_tree.proofs.canonical.Once.{as_read, canonical_or}
 use Rattle.cbor4ii_tree.proofs.encodings.CanonicalShape.{reads_canonically_iff}
-use Rattle.cbor4ii_tree.proofs.{reading.Answer.{not_both, one_reading}, values.Asking.not_wanted}
+use Rattle.cbor4ii_tree.proofs.{reading.Answer.{not_both, one_reading}, values.Sequences.not_wanted}
 use Rattle.cbor4ii_rw.specs.declared.error.DecodeError.TheVariants as error
 
 module _ {V : Type 0} (format : Format V) (bytes : List ℕ) (Accepts : V → List ℕ → Type 0)
@@ -30,15 +30,8 @@ module _ {V : Type 0} (format : Format V) (bytes : List ℕ) (Accepts : V → Li
   answers : {E : Type 0} → IsTrue format.owned
       → (answer : Result V (WholeError (DecodeError E))) → DecodesWhole format bytes answer
       → AnswersWhole Accepts (format.rejects bytes (Some limit)) answer
-  answers owned (Ok v) d =
-      subst (Accepts v) (drop-length bytes)
-      (accepts v (length bytes) d.accepts.0 d.accepts.1 d.accepts.2)
-  answers owned (Err (Trailing left)) d =
-      let t = d.trailing.0 in
-      let long = length-drop t.1.0 bytes in
-      let sum : t.1.0 + left ≡ length bytes = t.1.4 in
-      let left_over : length (drop t.1.0 bytes) ≡ left = omega (arith) in
-      (t.0, drop t.1.0 bytes, accepts t.0 t.1.0 t.1.1 t.1.2 t.1.3, left_over, t.1.5)
+  answers owned (Ok v) d = search (rules, drop-length)
+  answers owned (Err (Trailing left)) d = search (rules, length-drop)
   answers owned (Err (Decode e)) d = d.rejects.rejects (inl owned)
 
 module _ {V : Type 0} (Accepts : V → List ℕ → Type 0) (Rejects : InputError → List ℕ → Type 0)
@@ -48,11 +41,7 @@ module _ {V : Type 0} (Accepts : V → List ℕ → Type 0) (Rejects : InputErro
   memory_alone : (e : WholeError (DecodeError Infallible))
       → AnswersWhole {V = V} {E = Infallible} Accepts Rejects (Err e)
       → e ≡ Decode error.OutOfMemory
-  memory_alone (Trailing left) a =
-      let empty : 0 ≡ length a.1 = ap length (one a.0 a.1 a.2) in
-      let long : length a.1 ≡ left = a.3 in
-      let some : 1 ≤ left = a.4 in
-      absurd (omega (arith))
+  memory_alone (Trailing left) a = search rules
   memory_alone (Decode error.OutOfMemory) a = refl
   memory_alone (Decode (error.Read e)) a = elim e [ ]
   memory_alone _ a = absurd (none _ a.0 a.1)
@@ -80,13 +69,7 @@ module _ {V : Type 0} (canonical : Bool) (bytes : List ℕ) (a b : View)
 module _ (bytes : List ℕ) where
   value_accepts : (v : Value) (n c : ℕ) → value_format.reads bytes v n c → c ≤ limit
       → DecodesTo bytes (Some limit) (view v) (drop n bytes)
-  value_accepts v n c r fits = record {
-    encoding = take n bytes;
-    steps = c;
-    encodes = r.encodes;
-    fits = fits;
-    begins = sym (take-append-drop n bytes);
-  }
+  value_accepts v n c r fits = search (rules, take-append-drop)
 
   pub value_answers : {E : Type 0} (answer : Result Value (WholeError (DecodeError E)))
       → DecodesWhole value_format bytes answer
@@ -110,13 +93,7 @@ module _ (bytes : List ℕ) where
 
   canonical_accepts : (v : Canonical) (n c : ℕ) → canonical_format.reads bytes v n c → c ≤ limit
       → DecodesCanonically bytes (Some limit) (view v.0) (drop n bytes)
-  canonical_accepts v n c r fits = record {
-    encoding = take n bytes;
-    steps = c;
-    encodes = r.encodes;
-    fits = fits;
-    begins = sym (take-append-drop n bytes);
-  }
+  canonical_accepts v n c r fits = search (rules, take-append-drop)
 
   pub canonical_answers : {E : Type 0} (answer : Result Canonical (WholeError (DecodeError E)))
       → DecodesWhole canonical_format bytes answer

@@ -20,11 +20,10 @@ ghost use Rattle.cbor4ii_tree.specs.Inner.Valuing.{RejectsPairsToBreak, ReadsVal
 ghost use Rattle.cbor4ii_tree.specs.Inner.Valuing.{RejectsValuePair};
 ghost use Rattle.cbor4ii_tree.specs.Inner.Valuing.{ReadsTagged, TakesLength, TakesTag, flat_values};
 ghost use Rattle.cbor4ii_tree.specs.Inner.Asking.{InParts, InTagged};
-ghost use Rattle.cbor4ii_tree.specs.Inner.Leaf.{AsksAfterNext, CanTake, DoesAfterFirst};
-ghost use Rattle.cbor4ii_tree.specs.Inner.Leaf.{DoesAfterNext};
+ghost use Rattle.cbor4ii_tree.specs.Inner.Leaf.{CanTake, DoesAfterFirst, DoesAfterNext};
+ghost use Rattle.cbor4ii_tree.specs.Inner.Leaf.{GivesNext, GivesValue};
 ghost use Rattle.cbor4ii_tree.specs.Inner.LeafRuns.{pair_values, GivesItems, PutsItems};
-ghost use Rattle.cbor4ii_tree.specs.Inner.LeafRuns.{PutsItemsUnder};
-ghost use Rattle.cbor4ii_tree.specs.Inner.LeafRuns.{RejectsItemsUnder};
+ghost use Rattle.cbor4ii_tree.specs.Inner.LeafRuns.{PutsItemsUnder, RejectsItemsUnder};
 ghost use Rattle.cbor4ii_tree.specs.Basis.Item.{IsItem, AreItems};
 ghost use Rattle.cbor4ii_tree.specs.Basis.View.{view, items_view};
 ghost use Rattle.cbor4ii_tree.specs.Calls.Promises.{value_format, DepthReads, FinalReads, Others};
@@ -127,8 +126,7 @@ pub(crate) fn read_outermost<S: Source, A: Encodings>(
     reader: &mut S,
     failure: &mut Option<DecodeError<S::Error>>,
 ) -> Option<Value>
-    ensures { Gives (Asks (InValue A.canonical)) InRange
-        (DoesUnder (ReadsOneValue A.canonical) (RejectsOneValue A.canonical))
+    ensures { GivesValue A.canonical (ReadsOneValue A.canonical) (RejectsOneValue A.canonical)
         (S.view reader.old) (S.view reader.new) (value_or_error result failure.new) }
 {
     if !reader.step_in() {
@@ -145,8 +143,7 @@ fn read_apart<S: Source, A: Encodings>(
     reader: &mut S,
     failure: &mut Option<DecodeError<S::Error>>,
 ) -> Option<Value>
-    ensures { Gives (Asks (InValue A.canonical)) InRange
-        (DoesUnder (ReadsUnder A.canonical) (RejectsUnder A.canonical))
+    ensures { GivesValue A.canonical (ReadsUnder A.canonical) (RejectsUnder A.canonical)
         (S.view reader.old) (S.view reader.new) (value_or_error result failure.new) }
 {
     read_inside::<S, A>(alloc, reader, failure)
@@ -161,8 +158,7 @@ fn read_value<S: Source, A: Encodings>(
     reader: &mut S,
     failure: &mut Option<DecodeError<S::Error>>,
 ) -> Option<Value>
-    ensures { Gives (Asks (InValue A.canonical)) InRange
-        (DoesUnder (ReadsOneValue A.canonical) (RejectsOneValue A.canonical))
+    ensures { GivesValue A.canonical (ReadsOneValue A.canonical) (RejectsOneValue A.canonical)
         (S.view reader.old) (S.view reader.new) (value_or_error result failure.new) }
 {
     if !reader.step_in() {
@@ -182,8 +178,7 @@ fn read_inside<S: Source, A: Encodings>(
     reader: &mut S,
     failure: &mut Option<DecodeError<S::Error>>,
 ) -> Option<Value>
-    ensures { Gives (Asks (InValue A.canonical)) InRange
-        (DoesUnder (ReadsUnder A.canonical) (RejectsUnder A.canonical))
+    ensures { GivesValue A.canonical (ReadsUnder A.canonical) (RejectsUnder A.canonical)
         (S.view reader.old) (S.view reader.new) (value_or_error result failure.new) }
 {
     match take_leaf::<S, A>(alloc, reader, failure)? {
@@ -202,8 +197,7 @@ fn read_next<S: Source, A: Encodings>(
     failure: &mut Option<DecodeError<S::Error>>,
 ) -> Option<Value>
     requires { CanTake next (S.view reader.old) }
-    ensures { Gives (AsksAfterNext A.canonical next (InValue A.canonical)) InRange
-        (DoesAfterNext A.canonical next (ReadsUnder A.canonical) (RejectsUnder A.canonical))
+    ensures { GivesNext A.canonical next (ReadsUnder A.canonical) (RejectsUnder A.canonical)
         (S.view reader.old) (S.view reader.new) (value_or_error result failure.new) }
 {
     match next.first / 32 {
@@ -224,8 +218,7 @@ fn read_tag<S: Source, A: Encodings>(
 ) -> Option<Value>
     requires can { CanTake next (S.view reader.old) }
     requires major { next.first / 32 ≡ 6 }
-    ensures { Gives (AsksAfterNext A.canonical next (InValue A.canonical)) InRange
-        (DoesAfterNext A.canonical next (ReadsUnder A.canonical) (RejectsOf A.canonical 6))
+    ensures { GivesNext A.canonical next (ReadsUnder A.canonical) (RejectsOf A.canonical 6)
         (S.view reader.old) (S.view reader.new) (value_or_error result failure.new) }
 {
     let number = take_tag::<S, A>(reader, next, failure)?;
@@ -341,8 +334,7 @@ fn read_array<S: Source, A: Encodings>(
 ) -> Option<Value>
     requires can { CanTake next (S.view reader.old) }
     requires major { next.first / 32 ≡ 4 }
-    ensures { Gives (AsksAfterNext A.canonical next (InValue A.canonical)) InRange
-        (DoesAfterNext A.canonical next (ReadsUnder A.canonical) (RejectsOf A.canonical 4))
+    ensures { GivesNext A.canonical next (ReadsUnder A.canonical) (RejectsOf A.canonical 4)
         (S.view reader.old) (S.view reader.new) (value_or_error result failure.new) }
 {
     if !reader.step_in() {
@@ -364,9 +356,7 @@ fn array_inside<S: Source, A: Encodings>(
 ) -> Option<Value>
     requires can { CanTake next (S.view reader.old) }
     requires major { next.first / 32 ≡ 4 }
-    ensures { Gives (AsksAfterNext A.canonical next (InValue A.canonical)) InRange
-        (DoesAfterNext A.canonical next
-        (ReadsTwoStepsIn A.canonical) (RejectsMajor A.canonical 4))
+    ensures { GivesNext A.canonical next (ReadsTwoStepsIn A.canonical) (RejectsMajor A.canonical 4)
         (S.view reader.old) (S.view reader.new) (value_or_error result failure.new) }
 {
     let items = match take_length::<S, A>(reader, major::ARRAY, next, failure)? {
@@ -543,8 +533,7 @@ fn read_map<S: Source, A: Encodings>(
 ) -> Option<Value>
     requires can { CanTake next (S.view reader.old) }
     requires major { next.first / 32 ≡ 5 }
-    ensures { Gives (AsksAfterNext A.canonical next (InValue A.canonical)) InRange
-        (DoesAfterNext A.canonical next (ReadsUnder A.canonical) (RejectsOf A.canonical 5))
+    ensures { GivesNext A.canonical next (ReadsUnder A.canonical) (RejectsOf A.canonical 5)
         (S.view reader.old) (S.view reader.new) (value_or_error result failure.new) }
 {
     if !reader.step_in() {
@@ -566,9 +555,7 @@ fn map_inside<S: Source, A: Encodings>(
 ) -> Option<Value>
     requires can { CanTake next (S.view reader.old) }
     requires major { next.first / 32 ≡ 5 }
-    ensures { Gives (AsksAfterNext A.canonical next (InValue A.canonical)) InRange
-        (DoesAfterNext A.canonical next
-        (ReadsTwoStepsIn A.canonical) (RejectsMajor A.canonical 5))
+    ensures { GivesNext A.canonical next (ReadsTwoStepsIn A.canonical) (RejectsMajor A.canonical 5)
         (S.view reader.old) (S.view reader.new) (value_or_error result failure.new) }
 {
     let pairs = match take_length::<S, A>(reader, major::MAP, next, failure)? {

@@ -1,12 +1,12 @@
 //! What is read by the accessor of arrays and maps, part by part.
 use crate::nested::{nested, nested_value};
-use crate::typed::{Answer, TypedCalls, calls, no_call, shows};
+use crate::typed::{Answer, Got, TypedCalls, calls, no_call, shows};
 use cbor4ii::Value;
 use cbor4ii::dec::{Decode, IgnoredAny};
 use cbor4ii::serde::{Accessor, DecodeError, Deserialize, Deserializer};
 use cbor4ii_rw::error as core_error;
 use cbor4ii_rw::read::Source;
-use cbor4ii_vectors::rows::{Called, CalledWithin, ReadFrom, reads};
+use cbor4ii_vectors::rows::{Called, ReadFrom, reads};
 use cbor4ii_vectors::{eof, mismatch, table};
 use std::alloc::Global;
 use std::test::Fail;
@@ -89,7 +89,7 @@ impl Both {
         fields: &mut Accessor<'_, S>,
         x: &mut Option<u8>,
         y: &mut Option<i16>,
-    ) -> Result<bool, DecodeError<S::Error>> {
+    ) -> Got<bool, S> {
         let Some(key) = fields.next_key::<String>(alloc)? else {
             return Ok(false);
         };
@@ -106,11 +106,7 @@ impl Both {
 struct Parts;
 
 impl TypedCalls for Parts {
-    fn make<S: Source>(
-        name: &str,
-        alloc: Global,
-        de: &mut Deserializer<S>,
-    ) -> Result<String, DecodeError<S::Error>> {
+    fn make<S: Source>(name: &str, alloc: Global, de: &mut Deserializer<S>) -> Got<String, S> {
         match name {
             "first" => {
                 let mut items = de.deserialize_seq()?;
@@ -224,11 +220,11 @@ const READ: &[Called] = table! {
     ("both", b"\xa1\x61z\x01", Ok("Custom(\"another field\")"), b"\x01"),
 };
 
-const WITHIN: &[CalledWithin] = table! {
-    ("dropped", b"\x81\x80", 1, Ok("Dropped"), b"\x80"),
-};
-
 #[test]
 fn parts_of_arrays_and_maps(rt: HostRuntime) -> Result<(), Fail> {
-    calls::<Parts>(rt.alloc(), READ, WITHIN)
+    calls::<Parts>(
+        rt.alloc(),
+        READ,
+        &[("dropped", b"\x81\x80", 1, Ok("Dropped"), b"\x80")],
+    )
 }

@@ -2,10 +2,10 @@
 use crate::growth::{ARRAYS, LETTERS, MAPS, PARTS, grows, grows_by_letters, text_of};
 use crate::nested::{nested, nested_value};
 use crate::typed::Answer::{self, Is};
-use crate::typed::Take;
+use crate::typed::{Got, Take};
 use crate::values::{BothWays, tries_types};
 use cbor4ii::Value;
-use cbor4ii::serde::{DecodeError, Deserializer};
+use cbor4ii::serde::Deserializer;
 use cbor4ii_rw::read::Source;
 use cbor4ii_vectors::rows::{Called, CalledWithin, Want, reads, reads_within};
 use cbor4ii_vectors::{
@@ -151,10 +151,7 @@ fn a_text_of_more_bytes_than_are_reserved(rt: HostRuntime) -> Result<(), Fail> {
 struct ByCall(Value);
 
 impl Take for ByCall {
-    fn take<S: Source>(
-        alloc: Global,
-        de: &mut Deserializer<S>,
-    ) -> Result<ByCall, DecodeError<S::Error>> {
+    fn take<S: Source>(alloc: Global, de: &mut Deserializer<S>) -> Got<ByCall, S> {
         Ok(ByCall(de.deserialize_any(alloc)?))
     }
 }

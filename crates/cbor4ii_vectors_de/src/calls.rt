@@ -1,9 +1,9 @@
 //! What is read by the calls of a deserializer, by their names, and by the accessor of what may be
 //! absent.
-use crate::typed::{TypedCalls, calls, is_rejected, no_call, shows};
+use crate::typed::{Got, TypedCalls, calls, is_rejected, no_call, shows};
+use cbor4ii::RawValue;
 use cbor4ii::serde::{DecodeError, Deserialize, Deserializer};
 use cbor4ii::types::{F16, F32, F64, Simple, Tag};
-use cbor4ii::{RawValue, Value};
 use cbor4ii_rw::error::Never;
 use cbor4ii_rw::read::Source;
 use cbor4ii_rw::slice_reader::SliceReader;
@@ -16,11 +16,7 @@ use std::test::Fail;
 struct Named;
 
 impl TypedCalls for Named {
-    fn make<S: Source>(
-        name: &str,
-        alloc: Global,
-        de: &mut Deserializer<S>,
-    ) -> Result<String, DecodeError<S::Error>> {
+    fn make<S: Source>(name: &str, alloc: Global, de: &mut Deserializer<S>) -> Got<String, S> {
         match name {
             "any" => shows(alloc, de.deserialize_any(alloc)?),
             "char" => shows(alloc, de.deserialize_char(alloc)?),
@@ -29,10 +25,7 @@ impl TypedCalls for Named {
                 let bytes: Vec<u8> = de.deserialize_byte_buf(alloc)?;
                 shows(alloc, (text, bytes))
             }
-            "newtype" => {
-                let field: u8 = de.deserialize_newtype_struct(alloc, "Newtype")?;
-                shows(alloc, field)
-            }
+            "newtype" => shows::<u8, _>(alloc, de.deserialize_newtype_struct(alloc, "Newtype")?),
             "items" => {
                 let simple: Simple = de.deserialize_item(alloc)?;
                 let tag: Tag<u8> = de.deserialize_item(alloc)?;
@@ -51,11 +44,7 @@ impl TypedCalls for Named {
     }
 }
 
-fn number<S: Source>(
-    name: &str,
-    alloc: Global,
-    de: &mut Deserializer<S>,
-) -> Result<String, DecodeError<S::Error>> {
+fn number<S: Source>(name: &str, alloc: Global, de: &mut Deserializer<S>) -> Got<String, S> {
     match name {
         "unsigned" => {
             let flag = de.deserialize_bool(alloc)?;
@@ -89,16 +78,9 @@ fn number<S: Source>(
 
 // A number that may be absent, whether a value comes, which is not read then, and a number that is
 // read from what an option lends, whether or not a value comes.
-fn option<S: Source>(
-    name: &str,
-    alloc: Global,
-    de: &mut Deserializer<S>,
-) -> Result<String, DecodeError<S::Error>> {
+fn option<S: Source>(name: &str, alloc: Global, de: &mut Deserializer<S>) -> Got<String, S> {
     match name {
-        "option" => {
-            let value: Option<u8> = de.deserialize_option()?.value(alloc)?;
-            shows(alloc, value)
-        }
+        "option" => shows::<Option<u8>, _>(alloc, de.deserialize_option()?.value(alloc)?),
         "is some" => shows(alloc, de.deserialize_option()?.is_some()),
         "lent by an option" => {
             let mut option = de.deserialize_option()?;

@@ -3,10 +3,10 @@ ghost use Rattle.std.specs.Prelude.{◌∷◌, []};
 ghost use Rattle.cbor4ii_ser.specs.Item.{tuple_encoding};
 
 use crate::typed::{
-    Answer, BothShown, Rejected, RowShown, RowShownWithin, Take, calls, rejects, tries_shown,
+    Answer, BothShown, Got, RowShown, RowShownWithin, Take, calls, reads_all_shown, tries_shown,
 };
 use crate::values::Types;
-use cbor4ii::serde::{DecodeError, Deserializer, EncodeError, Serialize, Serializer};
+use cbor4ii::serde::{Deserializer, EncodeError, Serialize, Serializer};
 use cbor4ii_rw::read::Source;
 use cbor4ii_rw::write::Write;
 use cbor4ii_vectors::{eof, mismatch, no_step, require_length, table};
@@ -32,10 +32,7 @@ impl From<(u8, ())> for One {
 }
 
 impl Take for One {
-    fn take<S: Source>(
-        alloc: Global,
-        de: &mut Deserializer<S>,
-    ) -> Result<One, DecodeError<S::Error>> {
+    fn take<S: Source>(alloc: Global, de: &mut Deserializer<S>) -> Got<One, S> {
         de.deserialize_elements(alloc)
     }
 }
@@ -61,10 +58,7 @@ impl From<(u8, (u8, ()))> for Two {
 }
 
 impl Take for Two {
-    fn take<S: Source>(
-        alloc: Global,
-        de: &mut Deserializer<S>,
-    ) -> Result<Two, DecodeError<S::Error>> {
+    fn take<S: Source>(alloc: Global, de: &mut Deserializer<S>) -> Got<Two, S> {
         de.deserialize_elements(alloc)
     }
 }
@@ -91,10 +85,7 @@ impl From<(u8, (bool, (Option<i8>, ())))> for Three {
 }
 
 impl Take for Three {
-    fn take<S: Source>(
-        alloc: Global,
-        de: &mut Deserializer<S>,
-    ) -> Result<Three, DecodeError<S::Error>> {
+    fn take<S: Source>(alloc: Global, de: &mut Deserializer<S>) -> Got<Three, S> {
         de.deserialize_elements(alloc)
     }
 }
@@ -103,14 +94,14 @@ const ONE: &[BothShown] = table! {
     (b"\x81\x18\x64", "Is(One(100))"),
 };
 
-const ONE_REJECTED: &[Rejected] = table! {
-    (b"\x80\x01", require_length!("tuple", 0), b"\x01"),
-    (b"\x82\x01\x02", require_length!("tuple", 2), b"\x01\x02"),
-    (b"\x9f\x01\xff", require_length!("tuple"), b"\x01\xff"),
-    (b"\x01\x02", mismatch!("array", 1), b"\x02"),
-    (b"\x81\x20\x02", mismatch!("u8", 0x20), b"\x02"),
-    (b"\x81", eof!("u8", 1), b""),
-    (b"", eof!("array", 1), b""),
+const ONE_REJECTED: &[RowShown] = table! {
+    (b"\x80\x01", Err(require_length!("tuple", 0)), b"\x01"),
+    (b"\x82\x01\x02", Err(require_length!("tuple", 2)), b"\x01\x02"),
+    (b"\x9f\x01\xff", Err(require_length!("tuple")), b"\x01\xff"),
+    (b"\x01\x02", Err(mismatch!("array", 1)), b"\x02"),
+    (b"\x81\x20\x02", Err(mismatch!("u8", 0x20)), b"\x02"),
+    (b"\x81", Err(eof!("u8", 1)), b""),
+    (b"", Err(eof!("array", 1)), b""),
 };
 
 const ONE_WITHIN: &[RowShownWithin] = table! {
@@ -121,8 +112,7 @@ const ONE_WITHIN: &[RowShownWithin] = table! {
 #[test]
 fn one_element(rt: HostRuntime) -> Result<(), Fail> {
     let alloc = rt.alloc();
-    tries_shown::<Answer<One>>(alloc, ONE, &[], ONE_WITHIN)?;
-    rejects::<Answer<One>>(alloc, ONE_REJECTED)
+    tries_shown::<Answer<One>>(alloc, ONE, ONE_REJECTED, ONE_WITHIN)
 }
 
 const TWO: &[BothShown] = table! {
@@ -133,18 +123,18 @@ const TWO_READ: &[RowShown] = table! {
     (b"\x98\x02\x18\x01\x02\x03", Ok("Is(Two(1, 2))"), b"\x03"),
 };
 
-// What a pair rejects, with what is left. The lengths are 1, 3, 65535 and 65536.
-const TWO_REJECTED: &[Rejected] = table! {
-    (b"\x81\x01\x02", require_length!("tuple", 1), b"\x01\x02"),
-    (b"\x83\x01\x02\x03", require_length!("tuple", 3), b"\x01\x02\x03"),
-    (b"\x9f\x01\x02\xff", require_length!("tuple"), b"\x01\x02\xff"),
-    (b"\x99\xff\xff\x01", require_length!("tuple", 65535), b"\x01"),
-    (b"\x9a\x00\x01\x00\x00\x01", require_length!("tuple", Big), b"\x01"),
-    (b"\x82\x20\x01", mismatch!("u8", 0x20), b"\x01"),
-    (b"\x82\x01\x61", mismatch!("u8", 0x61), b""),
-    (b"\x82\x01", eof!("u8", 1), b""),
-    (b"\xa1\x01", mismatch!("array", 0xa1), b"\x01"),
-    (b"\x99\x00", eof!("array", 2), b""),
+// What a pair reads_all_shown, with what is left. The lengths are 1, 3, 65535 and 65536.
+const TWO_REJECTED: &[RowShown] = table! {
+    (b"\x81\x01\x02", Err(require_length!("tuple", 1)), b"\x01\x02"),
+    (b"\x83\x01\x02\x03", Err(require_length!("tuple", 3)), b"\x01\x02\x03"),
+    (b"\x9f\x01\x02\xff", Err(require_length!("tuple")), b"\x01\x02\xff"),
+    (b"\x99\xff\xff\x01", Err(require_length!("tuple", 65535)), b"\x01"),
+    (b"\x9a\x00\x01\x00\x00\x01", Err(require_length!("tuple", Big)), b"\x01"),
+    (b"\x82\x20\x01", Err(mismatch!("u8", 0x20)), b"\x01"),
+    (b"\x82\x01\x61", Err(mismatch!("u8", 0x61)), b""),
+    (b"\x82\x01", Err(eof!("u8", 1)), b""),
+    (b"\xa1\x01", Err(mismatch!("array", 0xa1)), b"\x01"),
+    (b"\x99\x00", Err(eof!("array", 2)), b""),
 };
 
 const TWO_WITHIN: &[RowShownWithin] = table! {
@@ -156,9 +146,9 @@ const TWO_WITHIN: &[RowShownWithin] = table! {
 fn two_elements_and_a_pair(rt: HostRuntime) -> Result<(), Fail> {
     let alloc = rt.alloc();
     tries_shown::<Answer<Two>>(alloc, TWO, TWO_READ, TWO_WITHIN)?;
-    rejects::<Answer<Two>>(alloc, TWO_REJECTED)?;
+    reads_all_shown::<Answer<Two>>(alloc, TWO_REJECTED, &[])?;
     for &(bytes, rejection, rest) in TWO_REJECTED {
-        calls::<Types>(alloc, &[("(u8, u8)", bytes, Err(rejection), rest)], &[])?;
+        calls::<Types>(alloc, &[("(u8, u8)", bytes, rejection, rest)], &[])?;
     }
     Ok(())
 }

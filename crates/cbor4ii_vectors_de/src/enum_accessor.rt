@@ -1,5 +1,5 @@
 //! What is read by the accessor of variants.
-use crate::typed::{TypedCalls, calls, no_call, shows};
+use crate::typed::{Got, TypedCalls, calls, no_call, shows};
 use cbor4ii::serde::{DecodeError, Deserialize, Deserializer};
 use cbor4ii_rw::read::Source;
 use cbor4ii_vectors::rows::{Called, CalledWithin};
@@ -12,11 +12,7 @@ use std::test::Fail;
 struct Variants;
 
 impl TypedCalls for Variants {
-    fn make<S: Source>(
-        name: &str,
-        alloc: Global,
-        de: &mut Deserializer<S>,
-    ) -> Result<String, DecodeError<S::Error>> {
+    fn make<S: Source>(name: &str, alloc: Global, de: &mut Deserializer<S>) -> Got<String, S> {
         let mut variant = de.deserialize_enum("Enum", &["A"])?;
         if name == "unread" {
             return shows(alloc, ());
@@ -27,10 +23,7 @@ impl TypedCalls for Variants {
         }
         match name {
             "unit" => shows(alloc, variant.unit_variant()?),
-            "newtype" => {
-                let content: u8 = variant.newtype_variant(alloc)?;
-                shows(alloc, content)
-            }
+            "newtype" => shows::<u8, _>(alloc, variant.newtype_variant(alloc)?),
             "tuple" => {
                 let mut items = variant.tuple_variant(2)?;
                 let first: Option<u8> = items.next_element(alloc)?;

@@ -1,6 +1,6 @@
 //! Rows of structs that are read in one call: of how many fields, and which of them are known.
-use crate::typed::{By, TypedCalls, calls, no_call, shows};
-use cbor4ii::serde::{DecodeError, Deserializer, Optional, Required};
+use crate::typed::{By, Got, TypedCalls, calls, no_call, shows};
+use cbor4ii::serde::{Deserializer, Optional, Required};
 use cbor4ii::types::F64;
 use cbor4ii_rw::read::Source;
 use cbor4ii_vectors::repeated::repeated;
@@ -55,71 +55,48 @@ fn so_many_entries_are_read(rt: HostRuntime) -> Result<(), Fail> {
 struct Structs;
 
 impl TypedCalls for Structs {
-    fn make<S: Source>(
-        name: &str,
-        alloc: Global,
-        de: &mut Deserializer<S>,
-    ) -> Result<String, DecodeError<S::Error>> {
+    fn make<S: Source>(name: &str, alloc: Global, de: &mut Deserializer<S>) -> Got<String, S> {
+        let one = (Optional, ());
+        let two = (Optional, (Optional, ()));
+        let four = (Optional, (Optional, (Optional, (Optional, ()))));
         match name {
             "measured" => {
-                let presences = (Required, (Required, ()));
-                let read: Measured = de.deserialize_fields(
+                let (presences, missing) = ((Required, (Required, ())), ["no b", "no c"]);
+                let got = de.deserialize_fields(
                     alloc,
                     "Measured",
                     &["b", "c"],
-                    &["no b", "no c"],
+                    &missing,
                     presences,
-                )?;
-                shows(alloc, read)
+                );
+                shows::<Measured, _>(alloc, got?)
             }
-            "one" => {
-                let read: One = de.deserialize_fields(alloc, "One", &["y"], &[], (Optional, ()))?;
-                shows(alloc, read)
-            }
+            "one" => shows::<One, _>(
+                alloc,
+                de.deserialize_fields(alloc, "One", &["y"], &[], one)?,
+            ),
             "long" => {
                 let names = ["abcdefghijklmnopqrstuvwx", "a"];
-                let presences = (Optional, (Optional, ()));
-                let (long, (a, ())) = de.deserialize_fields(alloc, "Long", &names, &[], presences)?;
+                let (long, (a, ())) = de.deserialize_fields(alloc, "Long", &names, &[], two)?;
                 shows(alloc, Long(long, a))
             }
             "two" => {
-                let read: Two = de.deserialize_fields(
-                    alloc,
-                    "Two",
-                    &["b", "f"],
-                    &[],
-                    (Optional, (Optional, ())),
-                )?;
+                let read: Two = de.deserialize_fields(alloc, "Two", &["b", "f"], &[], two)?;
                 shows(alloc, read)
             }
             "four" => {
-                let presences = (Optional, (Optional, (Optional, (Optional, ()))));
-                let read: Four = de.deserialize_fields(
-                    alloc,
-                    "Four",
-                    &["d", "a", "c", "g"],
-                    &[],
-                    presences,
-                )?;
+                let names = ["d", "a", "c", "g"];
+                let read: Four = de.deserialize_fields(alloc, "Four", &names, &[], four)?;
                 shows(alloc, read)
             }
             "five" => {
-                let presences = (Optional, (Optional, (Optional, (Optional, (Optional, ())))));
-                let read: Five = de.deserialize_fields(
-                    alloc,
-                    "Five",
-                    &["e", "d", "c", "b", "a"],
-                    &[],
-                    presences,
-                )?;
+                let (names, presences) = (["e", "d", "c", "b", "a"], (Optional, four));
+                let read: Five = de.deserialize_fields(alloc, "Five", &names, &[], presences)?;
                 shows(alloc, read)
             }
             "six" => {
                 let names = ["a", "b", "c", "d", "e", "f"];
-                let presences = (
-                    Optional,
-                    (Optional, (Optional, (Optional, (Optional, (Optional, ()))))),
-                );
+                let presences = (Optional, (Optional, four));
                 let read: Six = de.deserialize_fields(alloc, "Six", &names, &[], presences)?;
                 shows(alloc, read)
             }

@@ -45,24 +45,12 @@ fn the_value_at_the_beginning_of_bytes_of_the_test(rt: HostRuntime) -> Result<()
     comes_back_lent::<&[u8], String>(alloc, &bytes, &bytes, "\"a\"")
 }
 
-const NUMBERS_BOTH: &[BothShown] = table! {
-    (b"\x0a", "Some(10)"),
-};
-
-const UNITS_BOTH: &[BothShown] = table! {
-    (b"\x80", "()"),
-};
-
-const OPTIONAL_UNITS_BOTH: &[BothShown] = table! {
-    (b"\x80", "Some(())"),
-};
-
 #[test]
 fn numbers_and_units_come_back(rt: HostRuntime) -> Result<(), Fail> {
     let alloc = rt.alloc();
-    come_back::<Option<u32>>(alloc, NUMBERS_BOTH)?;
-    come_back::<()>(alloc, UNITS_BOTH)?;
-    come_back::<Option<()>>(alloc, OPTIONAL_UNITS_BOTH)
+    come_back::<Option<u32>>(alloc, &[(b"\x0a", "Some(10)")])?;
+    come_back::<()>(alloc, &[(b"\x80", "()")])?;
+    come_back::<Option<()>>(alloc, &[(b"\x80", "Some(())")])
 }
 
 const OPTIONS_BOTH: &[BothShown] = table! {

@@ -4,8 +4,8 @@ ghost use Rattle.cbor4ii.specs.Fields.{no_values};
 
 use crate::asked::{Row as AskedRow, asks_rows};
 use crate::presence::Lamp;
-use crate::typed::{By, TypedCalls, calls, no_call, shows};
-use cbor4ii::serde::{DecodeError, Deserializer, Once, Optional, Required};
+use crate::typed::{By, Got, TypedCalls, calls, no_call, shows};
+use cbor4ii::serde::{Deserializer, Once, Optional, Required};
 use cbor4ii_rw::read::Source;
 use cbor4ii_vectors::repeated::repeated;
 use cbor4ii_vectors::rows::{Called, CalledWithin, call_by_each};
@@ -77,11 +77,7 @@ fn so_many_pairs_are_read(rt: HostRuntime) -> Result<(), Fail> {
 struct Keys;
 
 impl TypedCalls for Keys {
-    fn make<S: Source>(
-        name: &str,
-        alloc: Global,
-        de: &mut Deserializer<S>,
-    ) -> Result<String, DecodeError<S::Error>> {
+    fn make<S: Source>(name: &str, alloc: Global, de: &mut Deserializer<S>) -> Got<String, S> {
         match name {
             "keyed" => {
                 let presences = (Required, (Once(Optional), (Optional, ())));

@@ -3,7 +3,7 @@
 ghost use Rattle.std.specs.Prelude.{◌≡◌, None};
 ghost use Rattle.std.proofs.Common.{refl};
 
-use crate::typed::{By, TypedCalls, no_call, shows};
+use crate::typed::{By, Got, TypedCalls, no_call, shows};
 use cbor4ii::Value;
 use cbor4ii::serde::laws::tested_values_are_rejected_once;
 use cbor4ii::serde::{
@@ -84,31 +84,22 @@ fn same<T: PartialEq + Drop, E>(
     }
 }
 
+/// Whether the value is what was read.
+fn is_many<E>(alloc: Global, read: Read) -> Result<String, DecodeError<E>> {
+    same(alloc, &read.0, many(alloc))
+}
+
 /// Calls that take memory for the value: whether it is what was read.
 struct Calls;
 
 impl TypedCalls for Calls {
-    fn make<S: Source>(
-        name: &str,
-        alloc: Global,
-        de: &mut Deserializer<S>,
-    ) -> Result<String, DecodeError<S::Error>> {
+    fn make<S: Source>(name: &str, alloc: Global, de: &mut Deserializer<S>) -> Got<String, S> {
         match name {
-            "deserialize_from" => {
-                let read: Read = de.deserialize_from::<Many, Read>(alloc)?;
-                same(alloc, &read.0, many(alloc))
-            }
-            "deserialize_checked" => {
-                let read: Read = de.deserialize_checked::<Many, Read>(alloc)?;
-                same(alloc, &read.0, many(alloc))
-            }
-            "deserialize_tagged" => {
-                let read: Read = de.deserialize_tagged::<Many, Read>(alloc, 24)?;
-                same(alloc, &read.0, many(alloc))
-            }
+            "deserialize_from" => is_many(alloc, de.deserialize_from::<Many, Read>(alloc)?),
+            "deserialize_checked" => is_many(alloc, de.deserialize_checked::<Many, Read>(alloc)?),
+            "deserialize_tagged" => is_many(alloc, de.deserialize_tagged::<Many, Read>(alloc, 24)?),
             "deserialize_newtype_struct" => {
-                let read: Many = de.deserialize_newtype_struct(alloc, "Many")?;
-                same(alloc, &read, many(alloc))
+                is_many(alloc, Read(de.deserialize_newtype_struct(alloc, "Many")?))
             }
             "deserialize_option" => {
                 let read: Option<Many> = de.deserialize_option()?.value(alloc)?;
@@ -132,16 +123,9 @@ impl TypedCalls for Calls {
 }
 
 /// Calls for structs and enums.
-fn of_parts<S: Source>(
-    name: &str,
-    alloc: Global,
-    de: &mut Deserializer<S>,
-) -> Result<String, DecodeError<S::Error>> {
+fn of_parts<S: Source>(name: &str, alloc: Global, de: &mut Deserializer<S>) -> Got<String, S> {
     match name {
-        "deserialize_elements" => {
-            let read: Read = de.deserialize_elements::<Many, (), Read>(alloc)?;
-            same(alloc, &read.0, many(alloc))
-        }
+        "deserialize_elements" => is_many(alloc, de.deserialize_elements::<Many, (), Read>(alloc)?),
         "deserialize_fields by a name" => {
             let presences = (Required, ());
             let read: Read = de.deserialize_fields(alloc, "Many", &["a"], &["no a"], presences)?;
@@ -162,11 +146,7 @@ fn of_parts<S: Source>(
 }
 
 /// Calls of accessors.
-fn by_accessor<S: Source>(
-    name: &str,
-    alloc: Global,
-    de: &mut Deserializer<S>,
-) -> Result<String, DecodeError<S::Error>> {
+fn by_accessor<S: Source>(name: &str, alloc: Global, de: &mut Deserializer<S>) -> Got<String, S> {
     match name {
         "next_element" => {
             let read: Option<Many> = de.deserialize_seq()?.next_element(alloc)?;
@@ -186,10 +166,10 @@ fn by_accessor<S: Source>(
             let read: Option<(u8, Many)> = de.deserialize_map()?.next_entry(alloc)?;
             same(alloc, &read, some_entry(many(alloc)))
         }
-        "variant" => {
-            let read: Many = de.deserialize_enum("Enum", &["A"])?.variant(alloc)?;
-            same(alloc, &read, many(alloc))
-        }
+        "variant" => is_many(
+            alloc,
+            Read(de.deserialize_enum("Enum", &["A"])?.variant(alloc)?),
+        ),
         "newtype_variant" => {
             let mut variant = de.deserialize_enum("Enum", &["A"])?;
             let name: String = variant.variant(alloc)?;

@@ -1,6 +1,6 @@
 //! Names of fields and variants: what they ask of a reader.
 use crate::asked::{Row, asks_no_more_than, asks_rows};
-use crate::typed::{By, TypedCalls, calls, no_call, shows};
+use crate::typed::{By, Got, TypedCalls, calls, no_call, shows};
 use cbor4ii::serde::{Choice, DecodeError, Deserializer, Holds, Optional, Otherwise, Unit};
 use cbor4ii_rw::error::{Never, StaticStr};
 use cbor4ii_rw::read::Source;
@@ -94,11 +94,7 @@ struct Alike(Option<u8>, Option<u8>);
 struct Names;
 
 impl TypedCalls for Names {
-    fn make<S: Source>(
-        name: &str,
-        alloc: Global,
-        de: &mut Deserializer<S>,
-    ) -> Result<String, DecodeError<S::Error>> {
+    fn make<S: Source>(name: &str, alloc: Global, de: &mut Deserializer<S>) -> Got<String, S> {
         match name {
             "five" => {
                 let presences = (Optional, (Optional, (Optional, (Optional, (Optional, ())))));

@@ -6,7 +6,7 @@ ghost use Rattle.cbor4ii.specs.FieldKey.{text_key};
 ghost use Rattle.cbor4ii.specs.Presence.{no_more_fields, optional_field, field_or_else};
 ghost use Rattle.cbor4ii.specs.Presence.{required_field, struct_from};
 
-use crate::typed::{TypedCalls, calls, no_call, shows};
+use crate::typed::{Got, TypedCalls, calls, no_call, shows};
 use cbor4ii::serde::{DecodeError, Deserialize, Deserializer, Optional, Or, Required, Typed};
 use cbor4ii_rw::read::Source;
 use cbor4ii_vectors::rows::Called;
@@ -52,16 +52,9 @@ impl Typed for Lamp {
 struct Lamps;
 
 impl TypedCalls for Lamps {
-    fn make<S: Source>(
-        name: &str,
-        alloc: Global,
-        de: &mut Deserializer<S>,
-    ) -> Result<String, DecodeError<S::Error>> {
+    fn make<S: Source>(name: &str, alloc: Global, de: &mut Deserializer<S>) -> Got<String, S> {
         match name {
-            "lamp" => {
-                let read: Lamp = Lamp::deserialize(alloc, de)?;
-                shows(alloc, read)
-            }
+            "lamp" => shows::<Lamp, _>(alloc, Lamp::deserialize(alloc, de)?),
             _ => no_call(),
         }
     }

@@ -12,7 +12,7 @@ use cbor4ii_vectors::rows::{RowWithin, leaves, steps};
 use cbor4ii_vectors::streams::FailingStream;
 use cbor4ii_vectors::{eof, mismatch, no_step, require_borrowed, table, unsupported};
 use std::alloc::Global;
-use std::fmt::{Debug, InlineText};
+use std::fmt::InlineText;
 use std::io::ErrorKind;
 use std::test::Fail;
 

@@ -13,8 +13,8 @@ ghost use Rattle.cbor4ii.specs.Codec.{codec_of};
 ghost use Rattle.cbor4ii.specs.CodecAgrees.{as_described, its_codec};
 ghost use Rattle.cbor4ii.specs.CodecItems.{tagged_codec, item_codec};
 
-use crate::typed::Answer::{self, Custom, Is};
-use crate::typed::{Both, Take, comes_back, reads_all, tries};
+use crate::takes;
+use crate::typed::{Answer, BothShown, RowShown, RowShownWithin, comes_back, tries_shown};
 use cbor4ii::dec::{Decodable, Decode};
 use cbor4ii::enc::{Encode, Write};
 use cbor4ii::serde::{
@@ -23,7 +23,6 @@ use cbor4ii::serde::{
 };
 use cbor4ii_rw::error as core_error;
 use cbor4ii_rw::read::Source;
-use cbor4ii_vectors::rows::{Row, RowWithin};
 use cbor4ii_vectors::{eof, mismatch, table};
 use std::alloc::Global;
 use std::test::Fail;
@@ -70,28 +69,21 @@ impl<T: AsDescribed> AsDescribed for Under<T> {
     ghost agrees = { as_described (T.agrees, tt) T.agrees.is };
 }
 
-impl Take for Under<u8> {
-    fn take<S: Source>(
-        alloc: Global,
-        de: &mut Deserializer<S>,
-    ) -> Result<Self, DecodeError<S::Error>> {
-        Self::deserialize(alloc, de)
-    }
-}
+takes!(Under<u8>);
 
-const NUMBERS: &[Both<Under<u8>>] = table! {
-    (b"\xd8\x18\x05", Ok(Is(Under(5)))),
+const NUMBERS: &[BothShown] = table! {
+    (b"\xd8\x18\x05", "Is(Under(5))"),
 };
 
 // A head of any width, of this number and of others.
-const NUMBERS_READ: &[Row<Answer<Under<u8>>>] = table! {
-    (b"\xd9\x00\x18\x05\x00", Ok(Is(Under(5))), b"\x00"),
-    (b"\xda\x00\x00\x00\x18\x05", Ok(Is(Under(5))), b""),
-    (b"\xdb\x00\x00\x00\x00\x00\x00\x00\x18\x05", Ok(Is(Under(5))), b""),
-    (b"\xd7\x05\x00", Ok(Custom("expected another tag")), b"\x05\x00"),
-    (b"\xd8\x19\x05", Ok(Custom("expected another tag")), b"\x05"),
-    (b"\xd9\x01\x18\x05", Ok(Custom("expected another tag")), b"\x05"),
-    (b"\xdb\x00\x00\x00\x01\x00\x00\x00\x18", Ok(Custom("expected another tag")), b""),
+const NUMBERS_READ: &[RowShown] = table! {
+    (b"\xd9\x00\x18\x05\x00", Ok("Is(Under(5))"), b"\x00"),
+    (b"\xda\x00\x00\x00\x18\x05", Ok("Is(Under(5))"), b""),
+    (b"\xdb\x00\x00\x00\x00\x00\x00\x00\x18\x05", Ok("Is(Under(5))"), b""),
+    (b"\xd7\x05\x00", Ok("Custom(\"expected another tag\")"), b"\x05\x00"),
+    (b"\xd8\x19\x05", Ok("Custom(\"expected another tag\")"), b"\x05"),
+    (b"\xd9\x01\x18\x05", Ok("Custom(\"expected another tag\")"), b"\x05"),
+    (b"\xdb\x00\x00\x00\x01\x00\x00\x00\x18", Ok("Custom(\"expected another tag\")"), b""),
     (b"\x18\x18\x05", Err(mismatch!("tag", 0x18)), b"\x18\x05"),
     (b"\xdc\x05", Err(mismatch!("tag", 0xdc)), b"\x05"),
     (b"\xff", Err(mismatch!("tag", 0xff)), b""),
@@ -101,36 +93,29 @@ const NUMBERS_READ: &[Row<Answer<Under<u8>>>] = table! {
 };
 
 // The tag takes no step.
-const NUMBERS_WITHIN: &[RowWithin<Answer<Under<u8>>>] = table! {
-    (b"\xd8\x18\x05", 0, Ok(Is(Under(5))), b""),
+const NUMBERS_WITHIN: &[RowShownWithin] = table! {
+    (b"\xd8\x18\x05", 0, Ok("Is(Under(5))"), b""),
 };
 
 #[test]
 fn tagged_numbers(rt: HostRuntime) -> Result<(), Fail> {
-    tries(rt.alloc(), NUMBERS, NUMBERS_READ, NUMBERS_WITHIN)
+    tries_shown::<Answer<Under<u8>>>(rt.alloc(), NUMBERS, NUMBERS_READ, NUMBERS_WITHIN)
 }
 
-impl Take for Under<Under<bool>> {
-    fn take<S: Source>(
-        alloc: Global,
-        de: &mut Deserializer<S>,
-    ) -> Result<Self, DecodeError<S::Error>> {
-        Self::deserialize(alloc, de)
-    }
-}
+takes!(Under<Under<bool>>);
 
-const TWICE: &[Both<Under<Under<bool>>>] = table! {
-    (b"\xd8\x18\xd8\x18\xf5", Ok(Is(Under(Under(true))))),
+const TWICE: &[BothShown] = table! {
+    (b"\xd8\x18\xd8\x18\xf5", "Is(Under(Under(true)))"),
 };
 
-const TWICE_READ: &[Row<Answer<Under<Under<bool>>>>] = table! {
+const TWICE_READ: &[RowShown] = table! {
     (b"\xd8\x18\xf5", Err(mismatch!("tag", 0xf5)), b""),
-    (b"\xd8\x18\xc1\xf5", Ok(Custom("expected another tag")), b"\xf5"),
+    (b"\xd8\x18\xc1\xf5", Ok("Custom(\"expected another tag\")"), b"\xf5"),
 };
 
 #[test]
 fn a_tag_in_a_tag(rt: HostRuntime) -> Result<(), Fail> {
-    tries(rt.alloc(), TWICE, TWICE_READ, &[])
+    tries_shown::<Answer<Under<Under<bool>>>>(rt.alloc(), TWICE, TWICE_READ, &[])
 }
 
 #[test]

@@ -9,9 +9,8 @@ use cbor4ii_rw::read::Source;
 use cbor4ii_rw::slice_reader::SliceReader;
 use cbor4ii_rw::write::Write;
 use cbor4ii_vectors::rows::{
-    Called, CalledWithin, Calls, ReadFrom, Row, RowWithin, Want, WriteTo, calls_rows,
-    calls_rows_within, ends_at_each_prefix, reads, reads_alike, reads_rows, reads_rows_within,
-    reads_texts, reads_texts_within, says, writes,
+    Called, CalledWithin, Calls, ReadFrom, Row, RowWithin, WriteTo, calls_rows, calls_rows_within,
+    ends_at_each_prefix, reads_texts, reads_texts_within, says, writes,
 };
 use cbor4ii_vectors_ser::typed::write_typed;
 use std::alloc::Global;
@@ -21,6 +20,9 @@ use std::test::Fail;
 
 // The steps of a reader that is given no other limit.
 const STEPS: usize = 256;
+
+/// What calls of a deserializer answer.
+pub type Got<T, S> = Result<T, DecodeError<<S as Source>::Error>>;
 
 /// What is read as a typed value: a value, or the error that is no error of the codec.
 #[derive(Debug, PartialEq, Drop)]
@@ -36,21 +38,29 @@ pub enum Answer<T> {
 /// That it is read is proved once, over any reader, and a test of its rows asks no more of it.
 pub trait Take: Sized {
     /// Reads it from the beginning of what `de` has left.
-    fn take<S: Source>(
-        alloc: Global,
-        de: &mut Deserializer<S>,
-    ) -> Result<Self, DecodeError<S::Error>>;
+    fn take<S: Source>(alloc: Global, de: &mut Deserializer<S>) -> Got<Self, S>;
+}
+
+/// What is taken of these types is what their own `deserialize` reads.
+#[macro_export]
+macro_rules! takes {
+    ($($type:ty),*) => {
+        $(impl $crate::typed::Take for $type {
+            fn take<S: cbor4ii::dec::Source>(
+                alloc: std::alloc::Global,
+                de: &mut cbor4ii::serde::Deserializer<S>,
+            ) -> $crate::typed::Got<Self, S> {
+                cbor4ii::serde::Deserialize::deserialize(alloc, de)
+            }
+        })*
+    };
 }
 
 /// Calls of a deserializer that differ by their names.
 pub trait TypedCalls {
     /// The `Debug` text of what the call of this name reads from the beginning of what `de` has
     /// left. Of a name that is none of a call nothing is read, and `no_call` is the answer.
-    fn make<S: Source>(
-        name: &str,
-        alloc: Global,
-        de: &mut Deserializer<S>,
-    ) -> Result<String, DecodeError<S::Error>>;
+    fn make<S: Source>(name: &str, alloc: Global, de: &mut Deserializer<S>) -> Got<String, S>;
 }
 
 /// The calls, of which one that is rejected in words of its own has the text of that error.
@@ -125,63 +135,6 @@ impl<T: Serialize> WriteTo for Answer<T> {
             Answer::Custom(_) => Ok(()),
         }
     }
-}
-
-/// Bytes, and the value that is written as them and read back from them.
-pub type Both<T> = (&'static [u8], Want<Answer<T>>);
-
-/// What each row reads is written as the row's bytes, and read back from them. Each proper prefix
-/// of them is the end of the input.
-pub fn go_both_ways<A>(alloc: Global, rows: &[(&'static [u8], Want<A>)]) -> Result<(), Fail>
-where
-    A: WriteTo + ReadFrom + PartialEq + Debug + Drop,
-{
-    for (bytes, want) in rows {
-        if let Ok(answer) = want {
-            writes(alloc, answer, bytes)?;
-        }
-        reads_alike(alloc, bytes, want, b"")?;
-        ends_at_each_prefix::<A>(alloc, bytes, STEPS)?;
-    }
-    Ok(())
-}
-
-/// Reads the rows, those without a limit and those within one.
-pub fn reads_all<A>(alloc: Global, rows: &[Row<A>], within: &[RowWithin<A>]) -> Result<(), Fail>
-where
-    A: ReadFrom + PartialEq + Debug + Drop,
-{
-    reads_rows(alloc, rows)?;
-    reads_rows_within(alloc, within)
-}
-
-/// Bytes, the text of their error, and what is left of them.
-pub type Rejected = (&'static [u8], &'static str, &'static [u8]);
-
-/// Reads the rows of bytes that are rejected.
-pub fn rejects<A>(alloc: Global, rows: &[Rejected]) -> Result<(), Fail>
-where
-    A: ReadFrom + PartialEq + Debug + Drop,
-{
-    for &(bytes, rejection, rest) in rows {
-        reads::<A>(alloc, bytes, Err(rejection), rest)?;
-    }
-    Ok(())
-}
-
-/// All rows of one type: those that go both ways, those that are read, and those that are read
-/// within a limit.
-pub fn tries<A>(
-    alloc: Global,
-    both: &[(&'static [u8], Want<A>)],
-    rows: &[Row<A>],
-    within: &[RowWithin<A>],
-) -> Result<(), Fail>
-where
-    A: WriteTo + ReadFrom + PartialEq + Debug + Drop,
-{
-    go_both_ways(alloc, both)?;
-    reads_all(alloc, rows, within)
 }
 
 /// Bytes, and the text of the answer that is read from them and written as them.

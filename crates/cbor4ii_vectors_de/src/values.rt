@@ -1,6 +1,7 @@
 //! The types that rows read and write, by their names, each by its own `deserialize` and
 //! `serialize`.
-use crate::typed::{By, Take, TypedCalls, calls, no_call, shows};
+use crate::takes;
+use crate::typed::{By, Got, TypedCalls, calls, no_call, shows};
 use cbor4ii::Value;
 use cbor4ii::dec::IgnoredAny;
 use cbor4ii::serde::{DecodeError, Deserialize, Deserializer, Serialize, from_slice};
@@ -70,11 +71,7 @@ macro_rules! of_type {
 pub struct Types;
 
 impl TypedCalls for Types {
-    fn make<S: Source>(
-        name: &str,
-        alloc: Global,
-        de: &mut Deserializer<S>,
-    ) -> Result<String, DecodeError<S::Error>> {
+    fn make<S: Source>(name: &str, alloc: Global, de: &mut Deserializer<S>) -> Got<String, S> {
         if name == "IgnoredAny" {
             return deserialized::<IgnoredAny, _>(alloc, de);
         }
@@ -134,38 +131,4 @@ pub fn tries_types(
     calls::<Types>(alloc, rows, within)
 }
 
-impl Take for Value {
-    fn take<S: Source>(
-        alloc: Global,
-        de: &mut Deserializer<S>,
-    ) -> Result<Self, DecodeError<S::Error>> {
-        Self::deserialize(alloc, de)
-    }
-}
-
-impl Take for String {
-    fn take<S: Source>(
-        alloc: Global,
-        de: &mut Deserializer<S>,
-    ) -> Result<Self, DecodeError<S::Error>> {
-        Self::deserialize(alloc, de)
-    }
-}
-
-impl Take for Vec<u16> {
-    fn take<S: Source>(
-        alloc: Global,
-        de: &mut Deserializer<S>,
-    ) -> Result<Self, DecodeError<S::Error>> {
-        Self::deserialize(alloc, de)
-    }
-}
-
-impl Take for BTreeMap<u16, u8> {
-    fn take<S: Source>(
-        alloc: Global,
-        de: &mut Deserializer<S>,
-    ) -> Result<Self, DecodeError<S::Error>> {
-        Self::deserialize(alloc, de)
-    }
-}
+takes!(Value, String, Vec<u16>, BTreeMap<u16, u8>);

@@ -1,9 +1,9 @@
 //! Rows of variants that hold named fields, read in the call of their enum.
-use crate::typed::{TypedCalls, calls, no_call, shows};
+use crate::typed::{Got, TypedCalls, calls, no_call, shows};
 use cbor4ii::serde::Choice::{First, Other};
 use cbor4ii::serde::{
-    Choice, DecodeError, Deserializer, FieldWords, Holds, HoldsFields, Once, Optional, Or,
-    Otherwise, Required, Unit,
+    Choice, Deserializer, FieldWords, Holds, HoldsFields, Once, Optional, Or, Otherwise, Required,
+    Unit,
 };
 use cbor4ii_rw::error::{Never, StaticStr};
 use cbor4ii_rw::read::Source;
@@ -57,11 +57,7 @@ const FLAT: &[u8] = b"\xa1\x64Flat\xa3\x61x\x05\x64note\x09\x64size\x03";
 struct Shapes;
 
 impl TypedCalls for Shapes {
-    fn make<S: Source>(
-        name: &str,
-        alloc: Global,
-        de: &mut Deserializer<S>,
-    ) -> Result<String, DecodeError<S::Error>> {
+    fn make<S: Source>(name: &str, alloc: Global, de: &mut Deserializer<S>) -> Got<String, S> {
         match name {
             "shape" => {
                 let words = FieldWords(&["size", "x", "note"], &["", "not one x"], PhantomData);

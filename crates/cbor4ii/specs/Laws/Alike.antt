@@ -1,7 +1,7 @@
 -- Two calls over one input give one answer, where the type rejects it with one error.
-use Rattle.std.proofs.Common.{◌≡◌, ◌⊎◌, inl, inr, ℕ, List, drop, Option, Some, None, Result, Ok}
+use Rattle.std.proofs.Common.{◌≡◌, ◌⊎◌, inl, inr, ℕ, List, Option, Some, None, Result, Ok}
 use Rattle.std.proofs.Common.{Err}
-use Rattle.std.proofs.Common.{refl, sym, ap, ◌∙◌, IfSome}
+use Rattle.std.proofs.Common.{refl, IfSome, rules}
 use Rattle.cbor4ii_rw.specs.View.{View}
 use Rattle.cbor4ii_rw.specs.declared.error.DecodeError.{DecodeError}
 use Rattle.cbor4ii_items.specs.Decoding.{Format, IsLawful, Accepted, NoneRead}
@@ -18,19 +18,13 @@ some_or_none P (Some x) a = inr (x, refl, a)
 accepted_alone : {V G : Type 0} (s : Format V) (xs : List ℕ) (budget : Option ℕ) (v : V)
     (left : Option (List ℕ)) (e : DecodeError G) → Accepted s.reads xs budget left v
     → IfSome (input_error_of e) (λ _. NoneRead s.reads xs budget) → input_error_of e ≡ None
-accepted_alone s xs budget v left e a b =
-    elim (some_or_none (λ _. NoneRead s.reads xs budget) (input_error_of e) b) [
-      | inl p ↦ p
-      | inr p ↦ absurd (p.2 v a.count a.cost a.read a.fits)
-    ]
+accepted_alone s xs budget v left e a b = search (rules, some_or_none, inl, inr)
 
 both_accepted : {V : Type 0} (E F : Type 0) (s : Format V) (xs : List ℕ) (budget : Option ℕ)
     (new after : View) → IsLawful s → (v w : V) → Accepted s.reads xs budget new.known v
     → Accepted s.reads xs budget after.known w
     → SameAnswer {E = E} {F = F} s.same new after (Ok v) (Ok w)
-both_accepted E F s xs budget new after lawful v w a b =
-    let same = lawful.one xs v w a.count b.count a.cost b.cost a.read b.read in
-    inr (inr (same.2, a.left ∙ (ap (λ n. Some (drop n xs)) same.0 ∙ sym b.left)))
+both_accepted E F s xs budget new after lawful v w a b = search (rules, inr)
 
 module _ {V E F : Type 0} (s : Format V) (xs : List ℕ) (budget : Option ℕ)
     (new after : View) where
@@ -40,20 +34,7 @@ module _ {V E F : Type 0} (s : Format V) (xs : List ℕ) (budget : Option ℕ)
       → IfSome (input_error_of f)
       (λ z. (rest : List ℕ) × (after.known ≡ Some rest) × s.rejects xs budget z rest)
       → SameAnswer s.same new after (Err e) (Err f)
-  both_rejected once e f a b =
-      elim (some_or_none (λ z. (rest : List ℕ) × (new.known ≡ Some rest)
-      × s.rejects xs budget z rest) (input_error_of e) a) [
-        | inl p ↦ inl p
-        | inr p ↦ elim (some_or_none (λ z. (rest : List ℕ) × (after.known ≡ Some rest)
-            × s.rejects xs budget z rest) (input_error_of f) b) [
-              | inl q ↦ inr (inl q)
-              | inr q ↦ let same = once xs budget p.0 q.0 p.2.0 q.2.0 p.2.2 q.2.2 in
-                  inr (inr (
-                    p.1 ∙ (ap Some same.0 ∙ sym q.1),
-                    p.2.1 ∙ (ap Some same.1 ∙ sym q.2.1),
-                  ))
-            ]
-      ]
+  both_rejected once e f a b = search (rules, some_or_none, inl, inr)
 
 -- what a call answers over the bytes xs: a reading, or an error that the type gives
 abbrev pub AnswersBy : {V E : Type 0} → Format V → List ℕ → Option ℕ → View

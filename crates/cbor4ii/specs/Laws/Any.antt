@@ -5,9 +5,6 @@ use Rattle.std.specs.Prelude.{codes}
 use Rattle.std.specs.declared.alloc.Global.{Global}
 use Rattle.std.specs.declared.vec.Vec.{Vec}
 use Rattle.cbor4ii_items.specs.Decoding.{Reads}
-use Rattle.cbor4ii_items.specs.declared.types.F16.{F16 as Half}
-use Rattle.cbor4ii_items.specs.declared.types.F32.{F32 as Single}
-use Rattle.cbor4ii_items.specs.declared.types.F64.{F64 as Double}
 use Rattle.cbor4ii_items.specs.Floats.{ReadsFloat, float_format, float_lawful}
 use Rattle.cbor4ii_items.specs.Laws.Formats.{lawful_by}
 use Rattle.cbor4ii_items.specs.Laws.Bignums.{u128_one, u128_within, u128_positive, i128_one}
@@ -17,7 +14,7 @@ use Rattle.cbor4ii_items.specs.Sequences.{ReadsPair, SamePair, SameElements}
 use Rattle.cbor4ii_items.specs.Simple.{simple_lawful, bool_lawful}
 use Rattle.cbor4ii_items.specs.Laws.Strings.{two_small, as_lawful, text_lawful}
 use Rattle.cbor4ii_items.specs.Strings.{bytes_content, text_content}
-use Rattle.cbor4ii_tree.specs.Basis.Item.{item, bytes_item, text, sequence, mapping}
+use Rattle.cbor4ii_tree.specs.Basis.Item.{item}
 use Rattle.cbor4ii_tree.specs.Basis.View.{view, items_view, pairs_view}
 use Rattle.cbor4ii_tree.specs.declared.value.Value.{Value, the_lemmas}
 use Rattle.cbor4ii.specs.declared.serde.de.any_leaf.AnyKind.{AnyKind}
@@ -26,8 +23,8 @@ use Rattle.cbor4ii.specs.declared.serde.de.any_leaf.AnyLeaf.{AnyLeaf}
 use Rattle.cbor4ii.specs.declared.serde.de.any_leaf.AnyLeaf.TheVariants.{Integer, Bignum, Bytes}
 use Rattle.cbor4ii.specs.declared.serde.de.any_leaf.AnyLeaf.TheVariants.{Text, Bool as Flag, Null}
 use Rattle.cbor4ii.specs.declared.serde.de.any_leaf.AnyLeaf.TheVariants.{F16, F32, F64}
-use Rattle.cbor4ii.specs.Any.{kind, Formed, of_integer, of_bignum, of_bytes, of_text, of_bool}
-use Rattle.cbor4ii.specs.Any.{of_null, of_f16, of_f32, of_f64, of_array, of_map, LeafAs}
+use Rattle.cbor4ii.specs.Any.{kind, Formed, of_bignum, of_bytes, of_text, of_bool}
+use Rattle.cbor4ii.specs.Any.{of_array, of_map, LeafAs}
 use Rattle.cbor4ii.specs.Any.{ReadsValues, ReadsPairs, KindAs, AnyInside, AnyAt, ReadsAny, SameView}
 use Rattle.cbor4ii.specs.CodecAgrees.{AlsoReads, elements_also, unbroken_also, sequence_also}
 use Rattle.cbor4ii.specs.CodecAgrees.{pair_also}
@@ -39,43 +36,29 @@ use Rattle.cbor4ii.specs.Typed.{IsLawfulReading, reading_format, laws_of, not_ex
 -- ---- equal contents, equal values
 
 view_bytes : (b c : _) → bytes_content b ≡ bytes_content c → SameView (of_bytes b) (of_bytes c)
-view_bytes b c e =
-    let f : view (of_bytes b) ≡ bytes_item (bytes_content b) = search (rules, the_lemmas) in
-    let g : view (of_bytes c) ≡ bytes_item (bytes_content c) = search (rules, the_lemmas) in
-    f ∙ ap bytes_item e ∙ sym g
+view_bytes b c e = search (rules, the_lemmas)
 
 view_text : (s t : _) → text_content s ≡ text_content t → SameView (of_text s) (of_text t)
-view_text s t e =
-    let f : view (of_text s) ≡ text (text_content s) = search (rules, the_lemmas) in
-    let g : view (of_text t) ≡ text (text_content t) = search (rules, the_lemmas) in
-    f ∙ ap text e ∙ sym g
+view_text s t e = search (rules, the_lemmas)
 
 items_same : (vs ws : List Value) → SameElements SameView vs ws → items_view vs ≡ items_view ws
 items_same [] [] h = refl
-items_same [] (w ∷ ws) h = absurd h
-items_same (v ∷ vs) [] h = absurd h
 items_same (v ∷ vs) (w ∷ ws) h = ap₂ item h.0 (items_same vs ws h.1)
+items_same _ _ h = absurd h
 
 pairs_same : (ps qs : List (Value × Value)) → SameElements (SamePair SameView SameView) ps qs
     → pairs_view ps ≡ pairs_view qs
 pairs_same [] [] h = refl
-pairs_same [] (q ∷ qs) h = absurd h
-pairs_same (p ∷ ps) [] h = absurd h
 pairs_same (p ∷ ps) (q ∷ qs) h = cc (h.0.0, h.0.1, pairs_same ps qs h.1)
+pairs_same _ _ h = absurd h
 
 view_array : (vs ws : Vec Value Global) → items_view vs.items ≡ items_view ws.items
     → SameView (of_array vs) (of_array ws)
-view_array vs ws e =
-    let f : view (of_array vs) ≡ sequence (items_view vs.items) = search (rules, the_lemmas) in
-    let g : view (of_array ws) ≡ sequence (items_view ws.items) = search (rules, the_lemmas) in
-    f ∙ ap sequence e ∙ sym g
+view_array vs ws e = search (rules, the_lemmas)
 
 view_map : (ps qs : Vec (Value × Value) Global) → pairs_view ps.items ≡ pairs_view qs.items
     → SameView (of_map ps) (of_map qs)
-view_map ps qs e =
-    let f : view (of_map ps) ≡ mapping (pairs_view ps.items) = search (rules, the_lemmas) in
-    let g : view (of_map qs) ≡ mapping (pairs_view qs.items) = search (rules, the_lemmas) in
-    f ∙ ap mapping e ∙ sym g
+view_map ps qs e = search (rules, the_lemmas)
 
 -- ---- items that hold no other
 
@@ -102,14 +85,7 @@ float_laws bits marker count =
     laws_of (lawful_by bits (float_format [] marker count) (float_lawful [] marker count))
 
 leaf_laws : (leaf : AnyLeaf) → IsLawfulReading (LeafAs leaf) SameView true
-leaf_laws Integer =
-    formed_by of_integer
-    (record {
-      one = i128_one;
-      within = i128_within;
-      positive = λ _. i128_positive;
-      alone = not_exact;
-    })
+leaf_laws Integer = search (rules, formed_by, i128_one, i128_within, i128_positive, not_exact)
 leaf_laws Bignum =
     formed_by of_bignum (record {
       one = λ xs v w n m c d p q. u128_one xs v w n m c d p.0 q.0;
@@ -121,18 +97,10 @@ leaf_laws Bytes =
     formed_laws of_bytes view_bytes (laws_of (as_lawful (codes "bytes") 2 two_small bytes_content))
 leaf_laws Text = formed_laws of_text view_text (laws_of (text_lawful (codes "str") text_content))
 leaf_laws Flag = formed_by of_bool (laws_of bool_lawful)
-leaf_laws Null =
-    formed_laws of_null (λ v w e. ap (λ k. view (of_null (record { 0 = k }))) e)
-    (laws_of simple_lawful)
-leaf_laws F16 =
-    formed_laws of_f16 (λ v w e. ap (λ k. view (of_f16 (record { 0 = k }))) e)
-    (float_laws (λ (f : Half). f.0) 0xf9 2)
-leaf_laws F32 =
-    formed_laws of_f32 (λ v w e. ap (λ k. view (of_f32 (record { 0 = k }))) e)
-    (float_laws (λ (f : Single). f.0) 0xfa 4)
-leaf_laws F64 =
-    formed_laws of_f64 (λ v w e. ap (λ k. view (of_f64 (record { 0 = k }))) e)
-    (float_laws (λ (f : Double). f.0) 0xfb 8)
+leaf_laws Null = search (rules, formed_laws, laws_of, simple_lawful)
+leaf_laws F16 = search (rules, formed_laws, float_laws)
+leaf_laws F32 = search (rules, formed_laws, float_laws)
+leaf_laws F64 = search (rules, formed_laws, float_laws)
 
 -- ---- items that hold others
 
@@ -150,12 +118,7 @@ module _ {inner : Reads Value} (h : IsLawfulReading inner SameView true) where
       (laws_of (sequence_of_lawful (λ (ps : Vec (Value × Value) Global). ps.items) [] [] 5
       five_small (reading_format (ReadsPair inner inner) (SamePair SameView SameView) true)
       (pair_laws inner inner SameView SameView true true h h)))
-  kind_laws Other = record {
-    one = λ xs v w n m c d p q. absurd p;
-    within = λ xs v n c p. absurd p;
-    positive = λ e xs v n c p. absurd p;
-    alone = not_exact;
-  }
+  kind_laws Other = search (rules, not_exact)
 
   -- the first byte is one
   same_kind : (xs : List ℕ) (v : Value) (n c b d : ℕ) → take 1 xs ≡ b ∷ [] → take 1 xs ≡ d ∷ []
@@ -173,23 +136,17 @@ module _ {inner : Reads Value} (h : IsLawfulReading inner SameView true) where
   }
 
 at_laws : (k : ℕ) → IsLawfulReading (AnyAt k) SameView true
-at_laws zero = record {
-  one = λ xs v w n m c d p q. absurd p;
-  within = λ xs v n c p. absurd p;
-  positive = λ e xs v n c p. absurd p;
-  alone = not_exact;
-}
+at_laws zero = search (rules, not_exact)
 at_laws (suc k) = stepped_laws (inside_laws (at_laws k))
 
 -- ---- more is read where more of the parts is
 
 kind_more : {f g : Reads Value} → AlsoReads f g → (k : AnyKind)
     → AlsoReads (KindAs f k) (KindAs g k)
-kind_more more (Leaf leaf) xs v n c h = h
 kind_more more Array xs v n c h = (h.0, sequence_also more 4 xs h.0.items n c h.1, h.2)
 kind_more more Map xs v n c h =
     (h.0, sequence_also (pair_also more more) 5 xs h.0.items n c h.1, h.2)
-kind_more more Other xs v n c h = h
+kind_more more _ xs v n c h = h
 
 any_more : {f g : Reads Value} → AlsoReads f g → AlsoReads (AnyInside f) (AnyInside g)
 any_more more xs v n c h = (h.0, h.1, kind_more more (kind h.0) xs v n c h.2)

@@ -1,7 +1,7 @@
 -- What stands for a typed value is read back.
 use Rattle.std.proofs.Common.{◌≡◌, ◌⊎◌, inl, inr, ℕ, ◌+◌, ◌<◌, ◌≤◌, ◌^◌, List, [], ◌∷◌, ◌++◌}
 use Rattle.std.proofs.Common.{length, max, Bool, Some, None, refl, sym, ap, ◌∙◌, subst, arith}
-use Rattle.std.proofs.Common.{append_assoc, append-nil, length-append, All}
+use Rattle.std.proofs.Common.{append_assoc, append-nil, length-append, All, rules}
 use Rattle.std.proofs.lemmas.List.Elements.{All-head, All-tail}
 use Rattle.std.specs.declared.cmp.Ordering.{Ordering}
 use Rattle.std.specs.declared.cmp.Ordering.TheVariants.{Less, Greater}
@@ -103,10 +103,9 @@ pub key_value_back : {K V : Type 0} (first : Reads K) (second : Reads V) (a b : 
     (c d : ℕ) → IsReadBack first a p.0 c → IsReadBack second b p.1 d
     → IsReadBack (ReadsPair first second) (one_then a b) p (max c d)
 unfolding one_then
-key_value_back first second (rejected xs words) b p c d h k = tt
-key_value_back first second (encoded xs) (rejected ys words) p c d h k = tt
 key_value_back first second (encoded xs)
     (encoded ys) p c d h k = two_back first second xs ys p c d h k
+key_value_back first second _ _ p c d h k = tt
 
 -- the last part
 last_back : {V : Type 0} (reads : Reads V) (o : Encoding) (v : V) (cost : ℕ)
@@ -119,8 +118,7 @@ pub pair_read_back : {A B : Type 0} (first : Reads A) (second : Reads B) (a b : 
     (one_then (encoded (shortest_head 4 2)) (one_then a (one_then b (encoded [])))) p
     (1 + max c d)
 pair_read_back first second a b p c d h k =
-    counted_back 2 (ReadsPair first second) _ p (max c d) (omega arith)
-    (key_value_back first second a _ p c d h (last_back second b p.1 d k))
+    search (rules, counted_back, key_value_back, last_back)
 
 pub triple_read_back : {A B C : Type 0} (first : Reads A) (second : Reads B) (third : Reads C)
     (a b c : Encoding) (p : A × B × C) (i j k : ℕ) → IsReadBack first a p.0 i
@@ -129,11 +127,7 @@ pub triple_read_back : {A B C : Type 0} (first : Reads A) (second : Reads B) (th
     (one_then (encoded (shortest_head 4 3)) (one_then a (one_then b (one_then c (encoded [])))))
     p (1 + max i (max j k))
 triple_read_back first second third a b c p i j k f g h =
-    counted_back 3 (ReadsTriple first second third) _ p (max i (max j k)) (omega arith)
-    (read_back_by (ReadsPair first (ReadsPair second third)) (ReadsTriple first second third)
-    (p.0, (p.1, p.2)) p (λ xs n c r. r) _ _
-    (key_value_back first (ReadsPair second third) a _ (p.0, (p.1, p.2)) i (max j k) f
-    (key_value_back second third b _ (p.1, p.2) j k g (last_back third c p.2 k h))))
+    search (rules, counted_back, read_back_by, key_value_back, last_back)
 
 -- ---- sequences
 
@@ -157,9 +151,8 @@ module _ {P : Type 0} (reads : Reads P) where
       → IsReadBack (ReadsElements reads) q ps d
       → IsReadBack (ReadsElements reads) (one_then o q) (p ∷ ps) (max c d)
   unfolding one_then
-  joined_back (rejected xs words) q p ps c d h k = tt
-  joined_back (encoded xs) (rejected ys words) p ps c d h k = tt
   joined_back (encoded xs) (encoded ys) p ps c d h k = more_back p ps xs ys c d h k
+  joined_back _ _ p ps c d h k = tt
 
   pub definite_back : (major : ℕ) (never_empty : Bool) (ps : List P) (o : Encoding) (cost : ℕ)
       → length ps < 2 ^ 64 → IsReadBack (ReadsElements reads) o ps cost
@@ -196,10 +189,7 @@ module _ {P : Type 0} (reads : Reads P) (item : P → Encoding) (cost : P → �
       → IsReadBack (ReadsSequence major reads never_empty)
       (one_then (encoded (shortest_head major (length ps))) (each_encoding item ps)) ps
       (1 + greatest_part_cost cost ps)
-  sequence_read_back major never_empty ps small h =
-      definite_back reads major never_empty ps (each_encoding item ps) (greatest_part_cost cost ps)
-      small
-      (items_back ps h)
+  sequence_read_back major never_empty ps small h = search (rules, definite_back, items_back)
 
 -- ---- maps
 
@@ -253,6 +243,4 @@ pub map_read_back : {K V M : Type 0} (entries : M → List (K × V)) (cmp : K �
     (reads : Reads (List (K × V))) (o : Encoding) (m : M) (cost : ℕ)
     → built_pairs cmp (entries m) ≡ entries m → IsReadBack reads o (entries m) cost
     → IsReadBack (ReadsBuilt entries cmp reads) o m cost
-map_read_back entries cmp reads o m cost e h =
-    read_back_by reads (ReadsBuilt entries cmp reads) (entries m) m
-    (λ xs n c r. (entries m, r, sym e)) o cost h
+map_read_back entries cmp reads o m cost e h = search (rules, read_back_by)

@@ -1,6 +1,6 @@
 -- Two and three elements are read as a pair and a triple are.
-use Rattle.std.proofs.Common.{◌≡◌, ℕ, List, drop, Bool, true, false, inl, inr, refl, sym, ap}
-use Rattle.std.proofs.Common.{subst, arith}
+use Rattle.std.proofs.Common.{◌≡◌, ℕ, List, drop, Bool, true, false, inl, inr, refl, ap}
+use Rattle.std.proofs.Common.{arith, rules}
 use Rattle.std.specs.Prelude.{◌&&◌, ◌||◌, codes}
 use Rattle.cbor4ii_items.specs.Decoding.{Reads, RejectsAt, Format, format_by}
 use Rattle.cbor4ii_items.specs.Sequences.{ReadsPair, RejectsPair, pair_format, after_step}
@@ -8,7 +8,7 @@ use Rattle.cbor4ii_items.specs.Nothing.{RejectsNothing}
 use Rattle.cbor4ii.specs.Elements.{ReadsNone, no_element, element_before}
 use Rattle.cbor4ii.specs.Elements.{typed_elements, AlsoRejects, ReadsAlike, PromisesAlike}
 use Rattle.cbor4ii.specs.Stepped.{RejectsStepped, stepped_format}
-use Rattle.cbor4ii.specs.Tuples.{after_format, ReadsCountOf, RejectsCountOf, three}
+use Rattle.cbor4ii.specs.Tuples.{after_format, three}
 use Rattle.cbor4ii.specs.Typed.{Promise}
 use Rattle.cbor4ii.specs.TypedParts.{part_of, typed_pair, typed_triple}
 
@@ -25,11 +25,7 @@ or_false false = refl
 module _ {T : Type 0} (s : Format T) where
   last_read : (xs : List ℕ) (v : T × Unit {0}) (n c : ℕ) → ReadsPair s.reads ReadsNone xs v n c
       → s.reads xs v.0 n c
-  last_read xs v n c r =
-      let size : n ≡ r.key_size = omega (arith, r.size, r.value.0) in
-      let cost : c ≡ r.key_cost = omega (arith, r.cost, r.value.1) in
-      subst (λ k. s.reads xs v.0 k c) (sym size)
-      (subst (λ k. s.reads xs v.0 r.key_size k) (sym cost) r.key)
+  last_read xs v n c r = search rules
 
   last_rejected : (rejects : RejectsAt) → AlsoRejects (RejectsPair s.reads rejects RejectsNothing)
       rejects
@@ -64,14 +60,7 @@ pair_rejects : {K : Type 0} (reads : Reads K) (rejects first second : RejectsAt)
     → AlsoRejects first second
     → AlsoRejects (RejectsPair reads rejects first) (RejectsPair reads rejects second)
 pair_rejects reads rejects first second also xs budget err rest (inl h) = inl h
-pair_rejects reads rejects first second also xs budget err rest (inr h) = inr (record {
-  whole = h.whole;
-  size = h.size;
-  cost = h.cost;
-  key = h.key;
-  fits = h.fits;
-  stop = also (drop h.size xs) budget err rest h.stop;
-})
+pair_rejects reads rejects first second also xs budget err rest (inr h) = search (rules, inr)
 
 step_rejects : (name : List ℕ) (first second : RejectsAt) → AlsoRejects first second
     → AlsoRejects (RejectsStepped name first) (RejectsStepped name second)
@@ -115,47 +104,11 @@ module _ {V W : Type 0} {to : V → W} {first : Format V} {second : Format W}
 
   after_alike : (count : ℕ)
       → ReadsAlike to (after_format count first) (after_format count second)
-  after_alike count = record {
-    onto = h.onto;
-    read = λ xs v n c r. record {
-      before = r.before;
-      head = r.head;
-      between = r.between;
-      parts = h.read (drop r.before xs) v r.between c r.parts;
-      size = r.size;
-    };
-    reads = λ xs v n c r. record {
-      before = r.before;
-      head = r.head;
-      between = r.between;
-      parts = h.reads (drop r.before xs) v r.between c r.parts;
-      size = r.size;
-    };
-    rejected = pair_rejects (ReadsCountOf count) (RejectsCountOf count) first.rejects
-        second.rejects h.rejected;
-    rejects = pair_rejects (ReadsCountOf count) (RejectsCountOf count) second.rejects
-        first.rejects h.rejects;
-    begun = pair_rejects (ReadsCountOf count) (RejectsCountOf count) first.begins second.begins
-        h.begun;
-    begins = pair_rejects (ReadsCountOf count) (RejectsCountOf count) second.begins first.begins
-        h.begins;
-    owned = h.owned;
-    takes_memory = h.takes_memory;
-  }
+  after_alike count = search (rules, pair_rejects)
 
   step_alike : (name : List ℕ)
       → ReadsAlike to (stepped_format name first) (stepped_format name second)
-  step_alike name = record {
-    onto = h.onto;
-    read = λ xs v n c r. (r.0, h.read xs v n r.0 r.1, r.2);
-    reads = λ xs v n c r. (r.0, h.reads xs v n r.0 r.1, r.2);
-    rejected = step_rejects name first.rejects second.rejects h.rejected;
-    rejects = step_rejects name second.rejects first.rejects h.rejects;
-    begun = step_rejects name first.begins second.begins h.begun;
-    begins = step_rejects name second.begins first.begins h.begins;
-    owned = h.owned;
-    takes_memory = h.takes_memory;
-  }
+  step_alike name = search (rules, step_rejects)
 
 -- ---- tuples
 

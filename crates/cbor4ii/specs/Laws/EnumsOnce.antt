@@ -1,7 +1,6 @@
 -- An enum, and a type with a test, are rejected with one error where their parts are.
 use Rattle.std.proofs.Common.{◌≡◌, ℕ, ◌/◌, inl, inr, List, [], ◌∷◌, drop, Option}
-use Rattle.std.proofs.Common.{Bool, true, false, IsTrue, sym, ap, ◌∙◌, subst}
-use Rattle.std.specs.Prelude.{codes}
+use Rattle.std.proofs.Common.{Bool, true, false, IsTrue, sym, ap, ◌∙◌, subst, rules}
 use denote.Ref.{Bor}
 use Rattle.cbor4ii_items.specs.Budget.{CostFits}
 use Rattle.cbor4ii_items.specs.Decoding.{Format, IsLawful}
@@ -11,7 +10,7 @@ use Rattle.cbor4ii_items.specs.OneError.{OneError, RejectsOnce}
 use Rattle.cbor4ii.specs.Cases.{Cases, Holding, unit_case, held_case, otherwise, case, ByName}
 use Rattle.cbor4ii.specs.Cases.{unnamed_case, cases_by}
 use Rattle.cbor4ii.specs.Cases.{FirstAnd, OtherAnd, enum_of, reads_named, rejects_named, form_one}
-use Rattle.cbor4ii.specs.Cases.{cases_inside, RejectsCase, ReadsCase, reads_by}
+use Rattle.cbor4ii.specs.Cases.{RejectsCase, ReadsCase, reads_by}
 use Rattle.cbor4ii.specs.Checked.{IsMade, RejectsChecked, checked_from}
 use Rattle.cbor4ii.specs.FieldKey.{text_key}
 use Rattle.cbor4ii.specs.Fields.{ReadsByKey, RejectsByKey}
@@ -32,10 +31,7 @@ unit_case_apart (true, first) xs budget e x s v n c p fits = p
 unit_case_apart (false, first) xs budget e x s v n c p fits = let no = s.0 in cc
 
 pub unit_case_once : HoldingOnce unit_case
-unit_case_once = record {
-  apart = unit_case_apart;
-  one_error = λ form xs budget e f x y s t. (s.1 ∙ sym t.1, s.2 ∙ sym t.2);
-}
+unit_case_once = search (rules, unit_case_apart)
 
 module _ {V : Type 0} (p : Promise V) (once : RejectsOnce p.format) where
   held_apart : (form : Bool × ℕ) → NeverBoth (reads_by form (held_case p).unit
@@ -60,10 +56,7 @@ otherwise_apart words (true, first) name xs budget e x s v n c p fits = p
 otherwise_apart words (false, first) name xs budget e x s v n c p fits = p.0
 
 pub otherwise_once : {V : Type 0} (words : List ℕ) → CasesOnce (otherwise {V = V} words)
-otherwise_once words = record {
-  apart = otherwise_apart words;
-  one_error = λ form name xs budget e f x y s t. (s.0 ∙ sym t.0, s.1 ∙ sym t.1);
-}
+otherwise_once words = search (rules, otherwise_apart)
 
 module _ {A B : Type 0} (own : List ℕ) (h : Holding A) (others : Cases B) (held : HoldingOnce h)
     (rest : CasesOnce others) where
@@ -185,10 +178,7 @@ module _ {V : Type 0} (cases : Cases V) (once : CasesOnce cases) where
       moved) t.stop
 
   pub enum_once : RejectsOnce (enum_of cases).format
-  enum_once = stepped_once (codes "enum") (cases_inside cases) (record {
-    apart = case_apart;
-    one_error = case_error;
-  })
+  enum_once = search (rules, stepped_once, case_apart, case_error)
 
 -- ---- a type with a test
 

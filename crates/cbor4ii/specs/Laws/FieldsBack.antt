@@ -1,4 +1,5 @@
 -- The fields of a struct are read back after their names: none, and one before others.
+use Rattle.std.proofs.Common.{rules}
 use Rattle.std.proofs.Common.{◌≡◌, ◌≢◌, inl, inr, ℕ, List, [], ◌∷◌, max, map, refl, sym, ap, ◌∙◌}
 use Rattle.std.specs.List.{AllByRecursion}
 use Rattle.cbor4ii_items.specs.Decoding.{Reads}
@@ -30,16 +31,8 @@ module _ {T P V : Type 0} (place : Place T P) (own : List ℕ) (reads : Reads T)
       → ChangesBack IsLabel (named_field place.put own reads named) parts
       (map changes_others changes) cost
   others_back IsLabel [] [] cost other back = back
-  others_back IsLabel [] (change ∷ changes) cost other back = absurd back
-  others_back IsLabel (part ∷ parts) [] cost other back = absurd back
-  others_back IsLabel (part ∷ parts) (change ∷ changes) cost other back = (
-    back.0,
-    back.1,
-    back.2,
-    other_back part.0 part.1 change back.0 other.0 back.3,
-    others_back IsLabel parts changes back.1 other.1 back.4,
-    back.5,
-  )
+  others_back IsLabel (part ∷ parts) (change ∷ changes) cost other back = search (rules, other_back, (others_back IsLabel parts changes back.1 other.1 back.4))
+  others_back IsLabel _ _ cost other back = absurd back
 
   -- the changes of the others leave the field
   changed_below : (o : P) (values : V) (changes : List (V → V))
@@ -85,13 +78,7 @@ module _ {T P V : Type 0} (place : Place T P) (own : List ℕ) (reads : Reads T)
       → AllByRecursion (λ (part : List ℕ × Encoding). part.0 ≢ own) parts
       → FieldsBack IsLabel (named_field place.put own reads named) (place.none, first)
       (place.none, values) parts cost
-  no_field_back {IsLabel = IsLabel} first values parts cost others apart = record {
-    changes = map changes_others others.changes;
-    each = others_back IsLabel parts others.changes cost apart others.each;
-    made =
-        ap (λ (trailing : V). (place.none, trailing)) others.made
-        ∙ sym (changed_below place.none first others.changes);
-  }
+  no_field_back {IsLabel = IsLabel} first values parts cost others apart = search (rules, others_back, changed_below)
 
 -- ---- no field
 

@@ -1,6 +1,6 @@
 -- What is written as an item of the tree is read back as a value that is this item.
 use Rattle.std.proofs.Common.{◌≡◌, ◌∙◌, ℕ, suc, ◌<◌, ◌^◌, pos, List, [], ◌∷◌, ◌++◌}
-use Rattle.std.proofs.Common.{length, map, Bool, false, ◌||◌, ltb, refl, sym, ap, ap₂, subst}
+use Rattle.std.proofs.Common.{length, map, false, ◌||◌, ltb, refl, sym, ap, ap₂, subst}
 use Rattle.std.proofs.Common.{arith, rules, append_assoc, IsTrue}
 use Rattle.std.proofs.lemmas.Bool.{lt-ltb}
 use Rattle.std.proofs.lemmas.List.{length-map}
@@ -142,8 +142,6 @@ mutual
 
 mutual
   is_item : (v : Item) → IsHeld v → IsItem v
-  is_item null h = tt
-  is_item (boolean b) h = tt
   is_item (integer z) h = h
   is_item (float p n) h = h
   is_item (bytes_item bs) h = omega (arith, h)
@@ -151,6 +149,7 @@ mutual
   is_item (sequence vs) h = (omega (arith, h.0), are_items vs h.1)
   is_item (mapping ms) h = (omega (arith, h.0), are_pairs ms h.1)
   is_item (tag n v) h = absurd h
+  is_item _ h = tt
 
   are_items : (vs : Items) → AreHeld vs → AreItems vs
   are_items no_items h = tt
@@ -162,15 +161,10 @@ mutual
 
 mutual
   untagged : (v : Item) → IsHeld v → holds_tag v ≡ false
-  untagged null h = refl
-  untagged (boolean b) h = refl
-  untagged (integer z) h = refl
-  untagged (float p n) h = refl
-  untagged (bytes_item bs) h = refl
-  untagged (text bs) h = refl
   untagged (sequence vs) h = all_untagged vs h.1
   untagged (mapping ms) h = pairs_untagged ms h.1
   untagged (tag n v) h = absurd h
+  untagged _ h = refl
 
   all_untagged : (vs : Items) → AreHeld vs → some_holds_tag vs ≡ false
   all_untagged no_items h = refl

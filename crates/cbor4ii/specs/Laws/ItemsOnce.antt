@@ -1,5 +1,5 @@
 -- An item that is read as a `Value`, skipped, or kept as its bytes is rejected with one error.
-use Rattle.std.proofs.Common.{◌≡◌, ℕ, zero, suc, List, [], ◌∷◌, ◌++◌, take, drop, refl, sym, ap}
+use Rattle.std.proofs.Common.{◌≡◌, ℕ, suc, List, ◌∷◌, ◌++◌, take, drop, refl, sym, ap}
 use Rattle.std.proofs.Common.{◌∙◌}
 use Rattle.cbor4ii_items.specs.Decoding.{leaf_format, taking_memory}
 use Rattle.cbor4ii_items.specs.OneError.{RejectsOnce}
@@ -17,9 +17,8 @@ use Rattle.cbor4ii_tree.specs.Calls.SkippingRejects.{SkippingRejects}
 use Rattle.cbor4ii.specs.Once.{SkippedOnce}
 
 joined : (n : ℕ) (xs : List ℕ) → take n xs ++ drop n xs ≡ xs
-joined zero xs = refl
-joined (suc n) [] = refl
 joined (suc n) (x ∷ xs) = ap (λ zs. x ∷ zs) (joined n xs)
+joined _ _ = refl
 
 pub value_once : ((input : List ℕ) (budget : Budget)
     → AtMostOne (DecodesTo input budget) (ReadingRejects input budget)) → RejectsOnce value_format

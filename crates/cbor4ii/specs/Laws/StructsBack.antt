@@ -1,7 +1,6 @@
 -- The fields of a struct are read back.
 use Rattle.std.proofs.Common.{◌≡◌, ℕ, suc, ◌+◌, ◌<◌, ◌^◌, List, [], ◌∷◌, length, max, true, refl}
-use Rattle.std.proofs.Common.{sym, ap, subst, arith}
-use Rattle.cbor4ii_items.specs.Numbers.{shortest_head}
+use Rattle.std.proofs.Common.{sym, ap, subst, arith, rules}
 use Rattle.cbor4ii_items.specs.Sequences.{ReadsElements, ReadsSequence, ReadsPair}
 use Rattle.cbor4ii_ser.specs.Item.{Encoding, encoded, rejected, one_then, parts}
 use Rattle.cbor4ii_ser.specs.Listed.{keyed_pairs, keyed_encoding}
@@ -42,22 +41,20 @@ module _ {V : Type 0} (key : FieldKey) (named : ReadsNamed V) where
       → IsReadBack (ReadsElements (ReadsByKey key named)) (parts (keyed_pairs key.item ps))
       changes cost
   changes_back [] [] cost back = λ rest. (refl, back)
-  changes_back [] (change ∷ changes) cost back = absurd back
-  changes_back (p ∷ ps) [] cost back = absurd back
   changes_back (p ∷ ps) (change ∷ changes) cost back =
       subst (λ c. IsReadBack (ReadsElements (ReadsByKey key named))
       (parts (keyed_pairs key.item (p ∷ ps))) (change ∷ changes) c) (sym back.5)
       (joined_back (ReadsByKey key named) (one_then (encoded (key.item p.0)) p.1)
       (parts (keyed_pairs key.item ps)) change changes back.0 back.1
       (entry_back p.0 p.1 change back.0 back.2 back.3) (changes_back ps changes back.1 back.4))
+  changes_back _ _ cost back = absurd back
 
   as_many : (ps : NamedItems) (changes : List (V → V)) (cost : ℕ)
       → ChangesBack (IsLabel key) named ps changes cost
       → length changes ≡ length (keyed_pairs key.item ps)
   as_many [] [] cost back = refl
-  as_many [] (change ∷ changes) cost back = absurd back
-  as_many (p ∷ ps) [] cost back = absurd back
   as_many (p ∷ ps) (change ∷ changes) cost back = ap suc (as_many ps changes back.1 back.4)
+  as_many _ _ cost back = absurd back
 
   as_values : (o : Encoding) (first values : V) (changes : List (V → V)) (cost : ℕ)
       → values ≡ after_changes first changes
@@ -71,11 +68,4 @@ module _ {V : Type 0} (key : FieldKey) (named : ReadsNamed V) where
       → FieldsBack (IsLabel key) named first values ps cost
       → IsReadBack (ReadsFields key first named) (keyed_encoding key.item ps) values (1 + cost)
   struct_back first values ps cost small back =
-      let count = as_many ps back.changes cost back.each in
-      let whole = definite_back (ReadsByKey key named) 5 true back.changes
-      (parts (keyed_pairs key.item ps)) cost (omega (arith, small, count, pairs_count key.item ps))
-      (changes_back ps back.changes cost back.each) in
-      as_values (keyed_encoding key.item ps) first values back.changes (1 + cost) back.made
-      (subst (λ k. IsReadBack (ReadsSequence 5 (ReadsByKey key named) true)
-      (one_then (encoded (shortest_head 5 k)) (parts (keyed_pairs key.item ps)))
-      back.changes (1 + cost)) count whole)
+      search (rules, as_many, definite_back, pairs_count, changes_back, as_values)

@@ -1,7 +1,7 @@
 -- A struct and what is made of a value are rejected with one error where their parts are.
 use Rattle.std.proofs.Common.{◌≡◌, ℕ, inl, inr, List, [], ◌∷◌, drop}
 use Rattle.std.proofs.Common.{Result, Ok, Err, IsTrue, sym, ap, ◌∙◌, subst}
-use Rattle.std.proofs.Common.{arith}
+use Rattle.std.proofs.Common.{rules}
 use Rattle.std.specs.Prelude.{codes}
 use denote.Ref.{Bor}
 use Rattle.cbor4ii_items.specs.Budget.{CostFits}
@@ -45,18 +45,13 @@ skipped_once one = record {
 -- where a value is made, no words reject another that means the same
 made_or_not : {W A : Type 0} (r s : Result W (List ℕ)) (w : W) (words : List ℕ) → SameFate r s
     → r ≡ Ok w → s ≡ Err words → A
-made_or_not (Ok v) (Ok u) w words same e f = cc
 made_or_not (Ok v) (Err u) w words same e f = absurd same
-made_or_not (Err v) s w words same e f = cc
+made_or_not _ _ w words same e f = cc
 
 same_words : {W : Type 0} (r s : Result W (List ℕ)) (u v : List ℕ) → SameFate r s
     → r ≡ Err u → s ≡ Err v → u ≡ v
-same_words (Ok a) s u v same e f = cc
-same_words (Err a) (Ok b) u v same e f = cc
-same_words (Err a) (Err b) u v same e f =
-    let p : a ≡ u = cc in
-    let q : b ≡ v = cc in
-    sym p ∙ (same ∙ q)
+same_words (Err a) (Err b) u v same e f = search rules
+same_words _ _ u v same e f = cc
 
 module _ {V W : Type 0} (s : Format V) (lawful : IsLawful s) (once : RejectsOnce s)
     (value : V → Result W (List ℕ))
@@ -93,10 +88,7 @@ made_or_rejected_once p value is once fate = record {
 -- a type whose values are made of those of another, and rejected as they are
 pub made_from_once : {V W : Type 0} (gives : V → W → Type 0) (p : Promise V)
     → RejectsOnce p.format → RejectsOnce (made_from gives p).format
-made_from_once gives p once = record {
-  apart = λ xs budget e x r w n c q. once.apart xs budget e x r q.part n c q.read;
-  one_error = once.one_error;
-}
+made_from_once gives p once = search rules
 
 -- ---- a key, and what follows it
 
@@ -104,17 +96,8 @@ module _ {W : Type 0} (key : FieldKey) (named : List ℕ → Reads W) (rejects :
     (apart : (label : List ℕ) → NeverBoth (named label) (rejects label))
     (once : (label : List ℕ) → OneError (rejects label)) where
   pub pair_apart : NeverBoth (ReadsByKey key named) (RejectsByKey key rejects)
-  pair_apart xs budget e x (inl s) w n c p fits =
-      key.apart xs budget e x s p.0 p.1.key_size p.1.key_cost p.1.key
-      (fits_less budget p.1.key_cost c (omega (arith, p.1.cost)) fits)
-  pair_apart xs budget e x (inr s) w n c p fits =
-      let same = key.laws.one xs p.0 s.label p.1.key_size s.size p.1.key_cost s.cost p.1.key
-      s.whole in
-      let value = subst (λ label. named label (drop p.1.key_size xs) w p.1.value_size
-      p.1.value_cost) same.2 p.1.value in
-      apart s.label (drop s.size xs) budget e x s.stop w p.1.value_size p.1.value_cost
-      (subst (λ k. named s.label (drop k xs) w p.1.value_size p.1.value_cost) same.0 value)
-      (fits_less budget p.1.value_cost c (omega (arith, p.1.cost)) fits)
+  pair_apart xs budget e x (inl s) w n c p fits = search (rules, fits_less)
+  pair_apart xs budget e x (inr s) w n c p fits = search (rules, fits_less)
 
   pub pair_error : OneError (RejectsByKey key rejects)
   pair_error xs budget e f x y (inl s) (inl t) = key.one_error xs budget e f x y s t
@@ -122,11 +105,7 @@ module _ {W : Type 0} (key : FieldKey) (named : List ℕ → Reads W) (rejects :
       absurd (key.apart xs budget e x s t.label t.size t.cost t.whole t.fits)
   pair_error xs budget e f x y (inr s) (inl t) =
       absurd (key.apart xs budget f y t s.label s.size s.cost s.whole s.fits)
-  pair_error xs budget e f x y (inr s) (inr t) =
-      let same = key.laws.one xs s.label t.label s.size t.size s.cost t.cost s.whole t.whole in
-      let stop = subst (λ label. rejects label (drop s.size xs) budget e x) same.2 s.stop in
-      once t.label (drop t.size xs) budget e f x y
-      (subst (λ k. rejects t.label (drop k xs) budget e x) same.0 stop) t.stop
+  pair_error xs budget e f x y (inr s) (inr t) = search rules
 
 -- ---- fields by their names
 
@@ -179,10 +158,7 @@ fields_by_once place p others skipped part rest (own ∷ trailing) =
 module _ {V : Type 0} (key : FieldKey) (fields : Fields V) (is : IsTrue fields.exact)
     (once : FieldsOnce fields) where
   field_pair_once : RejectsOnce (field_pair key fields)
-  field_pair_once = record {
-    apart = pair_apart key fields.named fields.rejects once.apart once.one_error;
-    one_error = pair_error key fields.named fields.rejects once.apart once.one_error;
-  }
+  field_pair_once = search (rules, pair_apart, pair_error)
 
   pub fields_once : RejectsOnce (fields_format key fields)
   fields_once =
@@ -203,5 +179,4 @@ pub made_struct_once : {V W : Type 0} (key : FieldKey) (fields : Fields V)
     → ((v w : V) → fields.same v w → SameFate (value v) (value w))
     → RejectsOnce (made_struct key fields value).format
 made_struct_once key fields value is once fate =
-    made_or_rejected_once (struct_of (λ v. v) key fields) value is
-    (struct_once key fields is once (λ v. v)) fate
+    search (rules, made_or_rejected_once, struct_once)

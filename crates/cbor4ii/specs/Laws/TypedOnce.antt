@@ -1,15 +1,14 @@
 -- A typed value is rejected with one error where its parts are.
-use Rattle.std.proofs.Common.{◌≡◌, ℕ, ◌<◌, inl, inr, List, [], ◌∷◌, drop, Option, None, Some}
-use Rattle.std.proofs.Common.{Bool, true, false, IsTrue, refl, sym, ap, ◌∙◌, subst, arith}
+use Rattle.std.proofs.Common.{◌≡◌, ℕ, ◌<◌, inl, inr, List, [], ◌∷◌, Option, None, Some}
+use Rattle.std.proofs.Common.{Bool, true, false, IsTrue, refl, sym, ap, ◌∙◌, subst, arith, rules}
 use Rattle.std.specs.Prelude.{codes, ◌&&◌}
 use Rattle.std.specs.declared.cmp.Ordering.{Ordering}
 use Rattle.cbor4ii_items.specs.Budget.{CostFits}
 use Rattle.cbor4ii_items.specs.Decoding.{Reads, RejectsAt, Format, IsLawful}
-use Rattle.cbor4ii_items.specs.InputError.{require_length}
 use Rattle.cbor4ii_items.specs.Lengths.{ReadsLength}
 use Rattle.cbor4ii_items.specs.NeverBoth.{NeverBoth}
 use Rattle.cbor4ii_items.specs.OneError.{OneError, RejectsOnce}
-use Rattle.cbor4ii_items.specs.Sequences.{after_step, in_list, in_vector, inside_of, pair_format}
+use Rattle.cbor4ii_items.specs.Sequences.{after_step, pair_format}
 use Rattle.cbor4ii_items.specs.Laws.Arguments.{argument_lawful}
 use Rattle.cbor4ii_items.specs.Laws.ContainerErrors.{option_once, boxed_once}
 use Rattle.cbor4ii_items.specs.Laws.Containers.{both}
@@ -25,10 +24,10 @@ use Rattle.cbor4ii.specs.Built.{built_map}
 use Rattle.cbor4ii.specs.Elements.{Elements, no_element, element_before, typed_elements}
 use Rattle.cbor4ii.specs.Sequence.{four_small, five_small, sequence_of}
 use Rattle.cbor4ii.specs.Stepped.{Stepped, RejectsStepped, stepped_format}
-use Rattle.cbor4ii.specs.Tagged.{tag_head, tag_head_lawful, typed_tagged, after_tag}
+use Rattle.cbor4ii.specs.Tagged.{tag_head_lawful, typed_tagged}
 use Rattle.cbor4ii.specs.Tagged.{RejectsTagHead, ReadsTagHead}
 use Rattle.cbor4ii.specs.Tuples.{ReadsUnit, RejectsUnit, RejectsCountOf, ReadsCountOf}
-use Rattle.cbor4ii.specs.Tuples.{container_head_format, after_format, known_length, three}
+use Rattle.cbor4ii.specs.Tuples.{container_head_format, after_format, three}
 use Rattle.cbor4ii.specs.Typed.{Promise, typed_format, any_two}
 use Rattle.cbor4ii.specs.TypedParts.{part_of, part_lawful, two_of, two_lawful, three_of}
 use Rattle.cbor4ii.specs.TypedParts.{three_lawful, tuple_of, typed_option, typed_box, typed_vector}
@@ -49,9 +48,7 @@ module _ {V : Type 0} (name : List ℕ) (reads : Reads V) (rejects : RejectsAt) 
       (RejectsStepped name rejects)
   steps_apart apart xs budget e x (inl s) v n c p fits =
       none_left budget p.0 s.0 (subst (λ k. CostFits k budget) p.2 fits)
-  steps_apart apart xs budget e x (inr s) v n c p fits =
-      apart xs (after_step budget) e x s.1 v n p.0 p.1
-      (fits_after budget p.0 (subst (λ k. CostFits k budget) p.2 fits))
+  steps_apart apart xs budget e x (inr s) v n c p fits = search (rules, fits_after)
 
   pub steps_error : OneError rejects → OneError (RejectsStepped name rejects)
   steps_error once xs budget e f x y (inl s) (inl t) = (s.1 ∙ sym t.1, s.2 ∙ sym t.2)
@@ -62,18 +59,13 @@ module _ {V : Type 0} (name : List ℕ) (reads : Reads V) (rejects : RejectsAt) 
 
 pub stepped_once : {V : Type 0} (name : List ℕ) (s : Format V) → RejectsOnce s
     → RejectsOnce (stepped_format name s)
-stepped_once name s h = record {
-  apart = steps_apart name s.reads s.rejects h.apart;
-  one_error = steps_error name s.reads s.rejects h.one_error;
-}
+stepped_once name s h = search (rules, steps_apart, steps_error)
 
 -- ---- of one part
 
 pub typed_option_once : {V : Type 0} (p : Promise V) → RejectsOnce p.format
     → RejectsOnce (typed_option p).format
-typed_option_once p h =
-    option_once (stepped_format (codes "option") (part_of p))
-    (stepped_once (codes "option") (part_of p) (part_once p h))
+typed_option_once p h = search (rules, option_once, stepped_once, part_once)
 
 pub typed_box_once : {V : Type 0} (p : Promise V) → RejectsOnce p.format
     → RejectsOnce (typed_box p).format
@@ -84,14 +76,11 @@ pub sequence_of_once : {P W : Type 0} (items : W → List P) (step name : List �
     → major < 8 → (s : Format P) → IsLawful s → RejectsOnce s
     → RejectsOnce (sequence_of items step name major s)
 sequence_of_once items step name major small s lawful h =
-    stepped_once step (inside_of items name major s)
-    (inside_once name major small s lawful h items)
+    search (rules, stepped_once, inside_once)
 
 pub typed_vector_once : {V : Type 0} (p : Promise V) → IsTrue p.exact → RejectsOnce p.format
     → RejectsOnce (typed_vector p).format
-typed_vector_once p is h =
-    sequence_of_once in_vector (codes "seq") (codes "array") 4 four_small (part_of p)
-    (part_lawful p is) (part_once p h)
+typed_vector_once p is h = search (rules, sequence_of_once, four_small, part_lawful, part_once)
 
 -- ---- of two and three
 
@@ -136,22 +125,10 @@ count_error count xs budget e f x y (inl s) (inr t) =
     absurd (length_apart (codes "array") 4 xs None e x s t.found t.size t.cost t.head tt)
 count_error count xs budget e f x y (inr s) (inl t) =
     absurd (length_apart (codes "array") 4 xs None f y t s.found s.size s.cost s.head tt)
-count_error count xs budget e f x y (inr s) (inr t) =
-    let same = one_length xs s.found t.found s.size t.size s.cost t.cost s.head t.head in (
-      s.rejected ∙ (ap (λ k. require_length (codes "tuple") (known_length k)) same.0
-          ∙ sym t.rejected),
-      s.left ∙ (ap (λ k. drop k xs) same.1 ∙ sym t.left),
-    )
+count_error count xs budget e f x y (inr s) (inr t) = search (rules, one_length)
 
 count_lawful : (count : ℕ) → IsLawful (container_head_format count)
-count_lawful count =
-    let h = argument_lawful (codes "array") 4 8 four_small in
-    record {
-      one = λ xs v w n m c d p q. let e = h.one xs count count n m c d p q in (e.0, e.1, refl);
-      within = λ xs v. h.within xs count;
-      positive = λ some xs v. h.positive some xs count;
-      alone = λ closed xs ys v. h.alone closed xs ys count;
-    }
+count_lawful count = search (rules, argument_lawful, four_small)
 
 count_once : (count : ℕ) → RejectsOnce (container_head_format count)
 count_once count = record { apart = count_apart count; one_error = count_error count }
@@ -194,10 +171,7 @@ typed_triple_once a b c is f g h =
 -- ---- elements
 
 pub no_element_once : RejectsOnce no_element.format
-no_element_once = record {
-  apart = λ xs budget e x r v n c p fits. r;
-  one_error = nothing_error;
-}
+no_element_once = search (rules, nothing_error)
 
 pub element_before_once : {T V : Type 0} (p : Promise T) (others : Elements V)
     → IsTrue (p.exact && others.exact) → RejectsOnce p.format → RejectsOnce others.format
@@ -215,18 +189,13 @@ typed_elements_once e is h = tuple_once e.count e.format (e.lawful is) h
 
 pub built_once : {K V M : Type 0} (entries : M → List (K × V)) (cmp : K → K → Ordering)
     (s : Format (List (K × V))) → RejectsOnce s → RejectsOnce (built_map entries cmp s)
-built_once entries cmp s h = record {
-  apart = λ xs budget e x r m n c p. h.apart xs budget e x r p.0 n c p.1;
-  one_error = h.one_error;
-}
+built_once entries cmp s h = search rules
 
 pub typed_map_once : {K V M : Type 0} (entries : M → List (K × V)) (cmp : K → K → Ordering)
     (k : Promise K) (v : Promise V) → IsTrue (k.exact && v.exact) → RejectsOnce k.format
     → RejectsOnce v.format → RejectsOnce (typed_map entries cmp k v).format
 typed_map_once entries cmp k v is g h =
-    built_once entries cmp (sequence_of in_list (codes "map") (codes "map") 5 (two_of k v))
-    (sequence_of_once in_list (codes "map") (codes "map") 5 five_small (two_of k v)
-    (two_lawful k v is) (two_once k v is g h))
+    search (rules, built_once, sequence_of_once, five_small, two_lawful, two_once)
 
 -- ---- a unit
 
@@ -257,16 +226,9 @@ tag_head_error number xs budget e f x y (inl s) (inr t) =
     absurd (head_apart (codes "tag") 6 8 xs e x t.found t.size s t.head)
 tag_head_error number xs budget e f x y (inr s) (inl t) =
     absurd (head_apart (codes "tag") 6 8 xs f y s.found s.size t s.head)
-tag_head_error number xs budget e f x y (inr s) (inr t) =
-    let same = head_one 6 8 xs s.found t.found s.size t.size (omega arith) s.head t.head in (
-      s.rejected ∙ sym t.rejected,
-      s.left ∙ (ap (λ k. drop k xs) same.0 ∙ sym t.left),
-    )
+tag_head_error number xs budget e f x y (inr s) (inr t) = search (rules, head_one)
 
 pub typed_tagged_once : {V : Type 0} (number : ℕ) (p : Promise V) → IsTrue p.exact
     → RejectsOnce p.format → RejectsOnce (typed_tagged number p).format
 typed_tagged_once number p is h =
-    once_by after_tag (pair_format (tag_head number) (part_of p))
-    (pair_once (tag_head number) (part_of p) (tag_head_lawful number) (part_lawful p is)
-    (record { apart = tag_head_apart number; one_error = tag_head_error number })
-    (part_once p h))
+    search (rules, once_by, pair_once, tag_head_lawful, part_lawful, tag_head_apart, tag_head_error, part_once)

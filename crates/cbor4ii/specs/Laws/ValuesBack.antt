@@ -25,7 +25,7 @@ use Rattle.cbor4ii_tree.specs.Laws.Numbers.{additional-lt}
 use Rattle.cbor4ii_tree.specs.Basis.Canonical.{canonical_encoding, canonical_cost, canonical_trees}
 use Rattle.cbor4ii_tree.specs.Basis.Canonical.{canonical_pairs, bignum}
 use Rattle.cbor4ii_tree.specs.declared.value.Value.TheFolds.{ind-Value}
-use Rattle.cbor4ii_tree.specs.Basis.Item.{Item, null, boolean, integer, float, bytes_item, text}
+use Rattle.cbor4ii_tree.specs.Basis.Item.{Item, null, boolean, integer, bytes_item, text}
 use Rattle.cbor4ii_tree.specs.Basis.Item.{sequence}
 use Rattle.cbor4ii_tree.specs.Basis.Item.{mapping, tag, Items, no_items, item, ItemPairs}
 use Rattle.cbor4ii_tree.specs.Basis.Item.{no_item_pairs}
@@ -199,16 +199,14 @@ agrees_on a b c h k bytes is = h bytes (k bytes is)
 agree_both : (a b c d : Encoding) → AgreesAsItem a c → AgreesAsItem b d → AgreesAsItem
     (one_then a b) (one_then c d)
 unfolding one_then
-agree_both a b (rejected xs words) d h k bytes is = absurd (cc)
-agree_both a b (encoded xs) (rejected ys words) h k bytes is = absurd (cc)
 agree_both a b (encoded xs) (encoded ys) h k bytes is = rw (h xs refl, k ys refl) is
+agree_both a b _ _ h k bytes is = absurd (cc)
 
 joined : (s t : Bool) (xs ys : List ℕ)
     → AgreesAsItem (one_then (unless s xs) (unless t ys)) (unless (s || t) (xs ++ ys))
 unfolding one_then
-joined true t xs ys bytes is = absurd (cc)
-joined false true xs ys bytes is = absurd (cc)
 joined false false xs ys bytes is = is
+joined _ _ xs ys bytes is = absurd (cc)
 
 -- what is read back from an item is so where another agrees with it
 back_as : {V : Type 0} (reads : Reads V) (a b : Encoding) (v : V) (cost : ℕ) → AgreesAsItem a b
@@ -414,16 +412,12 @@ least_integer false s n = omega arith
 
 mutual
   pub cost_least : (v : Item) → any_cost v ≤ canonical_cost v
-  cost_least null = omega arith
-  cost_least (boolean b) = omega arith
   cost_least (integer (pos n)) = least_integer (ltb n (2 ^ 64)) unsigned n
   cost_least (integer (negsuc n)) = least_integer (ltb n (2 ^ 64)) negative n
-  cost_least (float p n) = omega arith
-  cost_least (bytes_item bs) = omega arith
-  cost_least (text bs) = omega arith
   cost_least (sequence vs) = omega (arith, costs_least vs)
   cost_least (mapping ms) = omega (arith, pair_costs_least ms)
   cost_least (tag n v) = omega (arith, cost_least v)
+  cost_least _ = omega arith
 
   costs_least : (vs : Items) → greatest_any_cost vs ≤ Cost.greatest_cost (canonical_trees vs)
   costs_least no_items = omega arith

@@ -1,9 +1,8 @@
 -- A variant is read in one way, where its unit variants and its contents are.
-use Rattle.std.proofs.Common.{◌≡◌, ◌⊎◌, inl, inr, ℕ, ◌+◌, ◌*◌, ◌≤◌, List, [], ◌∷◌, length, drop}
-use Rattle.std.proofs.Common.{take, Bool, true, ap, subst, arith}
+use Rattle.std.proofs.Common.{◌≡◌, ◌⊎◌, inl, inr, ℕ, ◌≤◌, List, [], ◌∷◌, length, drop}
+use Rattle.std.proofs.Common.{take, Bool, true, ap, subst, arith, rules}
 use Rattle.std.proofs.lemmas.List.{length-drop, length-take}
 use Rattle.cbor4ii_items.specs.Decoding.{Reads}
-use Rattle.cbor4ii_items.specs.Head.{additional, indefinite_head}
 use Rattle.cbor4ii_items.specs.Sequences.{ReadsPair, SamePair}
 use Rattle.cbor4ii_items.specs.Strings.{ReadsText}
 use Rattle.cbor4ii_items.specs.Laws.Heads.{additional-lt}
@@ -15,16 +14,8 @@ use Rattle.cbor4ii.specs.Variants.{ReadsUnitVariant, ReadsPairVariant, ReadsVari
 
 -- a text does not begin as a map of one pair
 text_no_entry : (xs name : List ℕ) (n c : ℕ) → ReadsText xs name n c → take 1 xs ≡ 0xa1 ∷ [] → ⊥
-text_no_entry xs name n c (inl h, utf8) e =
-    let head = h.0.head in
-    let first : take 1 xs ≡ (32 * 3 + additional head.wide (length name)) ∷ [] =
-    ap (take 1) head.is in
-    let same : 32 * 3 + additional head.wide (length name) ≡ 0xa1 = cc in
-    omega (arith, same, additional-lt (length name) head.wide head.fits)
-text_no_entry xs name n c (inr h, utf8) e =
-    let first = h.begins in
-    let same : indefinite_head 3 ≡ 0xa1 = cc in
-    omega (arith, same)
+text_no_entry xs name n c (inl h, utf8) e = search (rules, additional-lt)
+text_no_entry xs name n c (inr h, utf8) e = search rules
 
 text_laws : IsLawfulReading ReadsText (λ (v w : List ℕ). v ≡ w) true
 text_laws = record {

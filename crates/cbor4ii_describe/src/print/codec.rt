@@ -2,19 +2,14 @@
 ghost use Rattle.std.specs.Prelude.{◌≡◌, ◌++◌, IfOk, IfSome, codes, string_bytes};
 ghost use Rattle.cbor4ii_describe.specs.Text.{field_word, ghost_key};
 
-use crate::fault::{Fault, Why, refused};
-use crate::print::layout::put_with_codec;
+use crate::fault::{OrFault, Why, refused};
+use crate::print::layout::{Made, put_with_codec};
 use crate::shape::{Field, Form, Key, Parameter, Presence};
 use crate::types::{in_option, mentions};
-use std::alloc::{AllocError, Global};
+use std::alloc::Global;
 
 /// The codec of a type that stands on this line, and how often it names the parameter.
-pub fn codec(
-    alloc: Global,
-    line: u32,
-    its_type: &str,
-    parameter: &Parameter,
-) -> Result<String, Fault> {
+pub fn codec(alloc: Global, line: u32, its_type: &str, parameter: &Parameter) -> OrFault<String> {
     match parameter {
         Parameter::Generic(name) if mentions(its_type, name.as_str()) => {
             of_parameter(alloc, line, its_type, name.as_str())
@@ -24,7 +19,7 @@ pub fn codec(
 }
 
 // The codec of the parameter, or of vectors or options of it.
-fn of_parameter(alloc: Global, line: u32, its_type: &str, name: &str) -> Result<String, Fault> {
+fn of_parameter(alloc: Global, line: u32, its_type: &str, name: &str) -> OrFault<String> {
     let mut text = String::new(alloc);
     let mut left = its_type;
     for depth in 0..its_type.len() {
@@ -67,7 +62,7 @@ pub fn put_fields(
     form: Form,
     fields: &[Field],
     parameter: &Parameter,
-) -> Result<(), Fault> {
+) -> OrFault<()> {
     for field in fields {
         let begin = match form {
             Form::Array => String::from_str(alloc, "(with_element")?,
@@ -98,7 +93,7 @@ pub fn held_type(field: &Field) -> &str {
 }
 
 // What stands before the codec of a field.
-fn begin(alloc: Global, field: &Field) -> Result<String, AllocError>
+fn begin(alloc: Global, field: &Field) -> Made<String>
     ensures { IfOk result (λ text. string_bytes text ≡ field_word field.now) }
 {
     let (key, words) = (key(alloc, &field.key)?, field.words.as_str());
@@ -120,7 +115,7 @@ fn begin(alloc: Global, field: &Field) -> Result<String, AllocError>
     }
 }
 
-fn key(alloc: Global, key: &Key) -> Result<String, AllocError>
+fn key(alloc: Global, key: &Key) -> Made<String>
     ensures { IfOk result (λ text. string_bytes text ≡ ghost_key key.now) }
 {
     match key {

@@ -2,21 +2,21 @@
 ghost use Rattle.std.specs.Prelude.{◌≡◌, ◌++◌, OnOk, string_bytes};
 ghost use Rattle.cbor4ii_describe.specs.Text.{typed_text};
 
-use crate::fault::Fault;
+use crate::fault::OrFault;
 use crate::print::codec::{codec, put_fields};
 use crate::print::deserialize::put_deserialize;
 use crate::print::from::put_from;
-use crate::print::layout::{ghost_pairs, list, put_record};
+use crate::print::layout::{Made, ghost_pairs, list, put_record};
 use crate::print::lists::{made_fields, places};
 use crate::print::serialize::put_serialize;
 use crate::print::types::{generics, letter, self_type};
 use crate::print::variants::put_enum_codec;
 use crate::shape::{Content, Described, Field, Form, Parameter, Shape, Variant};
 use crate::types::mentions;
-use std::alloc::{AllocError, Global};
+use std::alloc::Global;
 
 /// Appends a type and its impls.
-pub fn put_described(alloc: Global, out: &mut String, described: &Described) -> Result<(), Fault> {
+pub fn put_described(alloc: Global, out: &mut String, described: &Described) -> OrFault<()> {
     put_type(alloc, out, described)?;
     put_serialize(alloc, out, described)?;
     put_deserialize(alloc, out, described)?;
@@ -26,7 +26,7 @@ pub fn put_described(alloc: Global, out: &mut String, described: &Described) -> 
     Ok(put_agrees(alloc, out, described)?)
 }
 
-fn put_type(alloc: Global, out: &mut String, described: &Described) -> Result<(), AllocError> {
+fn put_type(alloc: Global, out: &mut String, described: &Described) -> Made<()> {
     let this = self_type(alloc, described)?;
     put_lines_above(out, "", &described.head.lines)?;
     let visibility = described.head.visibility.as_str();
@@ -54,21 +54,21 @@ fn put_type(alloc: Global, out: &mut String, described: &Described) -> Result<()
     }
 }
 
-fn put_lines_above(out: &mut String, indent: &str, lines: &[String]) -> Result<(), AllocError> {
+fn put_lines_above(out: &mut String, indent: &str, lines: &[String]) -> Made<()> {
     for line in lines {
         write!(out, "{indent}{line}\n")?;
     }
     Ok(())
 }
 
-fn put_field(out: &mut String, field: &Field) -> Result<(), AllocError> {
+fn put_field(out: &mut String, field: &Field) -> Made<()> {
     put_lines_above(out, "    ", &field.head.lines)?;
     let visibility = field.head.visibility.as_str();
     let (name, its_type) = (field.name.as_str(), field.its_type.as_str());
     write!(out, "    {visibility}{name}: {its_type},\n")
 }
 
-fn put_variant(alloc: Global, out: &mut String, variant: &Variant) -> Result<(), AllocError> {
+fn put_variant(alloc: Global, out: &mut String, variant: &Variant) -> Made<()> {
     let name = variant.name.as_str();
     match &variant.holds {
         Content::Nothing => write!(out, "    {name},\n"),
@@ -83,14 +83,14 @@ fn put_variant(alloc: Global, out: &mut String, variant: &Variant) -> Result<(),
     }
 }
 
-fn put_typed(alloc: Global, out: &mut String, described: &Described) -> Result<(), AllocError> {
+fn put_typed(alloc: Global, out: &mut String, described: &Described) -> Made<()> {
     let this = self_type(alloc, described)?;
     let generics = generics(alloc, &described.parameter, ": AsDescribed")?;
     put_promise(out, generics.as_str(), this.as_str())
 }
 
 // Appends the same for a type of this text, behind these generics.
-fn put_promise(out: &mut String, generics: &str, this: &str) -> Result<(), AllocError>
+fn put_promise(out: &mut String, generics: &str, this: &str) -> Made<()>
     ensures { OnOk result (string_bytes out.new
         ≡ string_bytes out.old ++ typed_text generics.now this.now) }
 {
@@ -101,7 +101,7 @@ fn put_promise(out: &mut String, generics: &str, this: &str) -> Result<(), Alloc
     )
 }
 
-fn put_codec(alloc: Global, out: &mut String, described: &Described) -> Result<(), Fault> {
+fn put_codec(alloc: Global, out: &mut String, described: &Described) -> OrFault<()> {
     let this = self_type(alloc, described)?;
     let generics = generics(alloc, &described.parameter, ": AsDescribed")?;
     let letter = letter(described.name.as_str());
@@ -141,7 +141,7 @@ fn put_codec(alloc: Global, out: &mut String, described: &Described) -> Result<(
     Ok(())
 }
 
-fn tagged(alloc: Global, tag: Option<u64>, codec: String) -> Result<String, AllocError> {
+fn tagged(alloc: Global, tag: Option<u64>, codec: String) -> Made<String> {
     match tag {
         None => Ok(codec),
         Some(tag) => format!(in alloc; "(tagged_codec {tag} {codec} refl)"),
@@ -155,7 +155,7 @@ fn put_places(
     letter: char,
     form: Form,
     fields: &[Field],
-) -> Result<(), AllocError> {
+) -> Made<()> {
     let word = match form {
         Form::Named | Form::Keyed => "struct_codec",
         Form::Array => "elements_codec",
@@ -165,19 +165,14 @@ fn put_places(
 }
 
 // Appends how a struct is made of its values, and that it is made of its own.
-fn put_made(
-    alloc: Global,
-    out: &mut String,
-    letter: char,
-    fields: &[Field],
-) -> Result<(), AllocError> {
+fn put_made(alloc: Global, out: &mut String, letter: char, fields: &[Field]) -> Made<()> {
     let after = format!(in alloc; ") (λ {letter}. refl)")?;
     let made = made_fields(alloc, fields)?;
     put_record(alloc, out, "        (λ values. ", &made, after.as_str())
 }
 
 // Appends the law, over the law of a parameter at each place that names it.
-fn put_agrees(alloc: Global, out: &mut String, described: &Described) -> Result<(), AllocError> {
+fn put_agrees(alloc: Global, out: &mut String, described: &Described) -> Made<()> {
     let this = self_type(alloc, described)?;
     let generics = generics(alloc, &described.parameter, ": AsDescribed")?;
     write!(
@@ -193,7 +188,7 @@ fn put_agrees(alloc: Global, out: &mut String, described: &Described) -> Result<
 }
 
 // Appends the laws of a parameter, one for each place that names it, and that all are exact.
-fn put_laws(out: &mut String, name: &str, shape: &Shape) -> Result<(), AllocError> {
+fn put_laws(out: &mut String, name: &str, shape: &Shape) -> Made<()> {
     let places = places_of(shape, name);
     put_nested(out, name, places, "", "agrees, ", "tt")?;
     match shape {
@@ -214,7 +209,7 @@ fn put_nested(
     before: &str,
     word: &str,
     last: &str,
-) -> Result<(), AllocError> {
+) -> Made<()> {
     for _ in 0..places {
         write!(out, "({before}{name}.{word}")?;
     }

@@ -1,17 +1,13 @@
 //! `impl Deserialize`.
-use crate::print::layout::{list, pairs};
+use crate::print::layout::{Made, list, pairs};
 use crate::print::lists::{keys, missing, presences};
 use crate::print::types::self_type;
 use crate::print::variants::put_variants;
 use crate::shape::{Described, Field, Form, Parameter, Shape};
-use std::alloc::{AllocError, Global};
+use std::alloc::Global;
 
 /// Appends how a type is read.
-pub fn put_deserialize(
-    alloc: Global,
-    out: &mut String,
-    described: &Described,
-) -> Result<(), AllocError> {
+pub fn put_deserialize(alloc: Global, out: &mut String, described: &Described) -> Made<()> {
     let this = self_type(alloc, described)?;
     put_header(alloc, out, &described.parameter, this.as_str())?;
     let (reader, error) = match &described.parameter {
@@ -57,12 +53,7 @@ pub fn put_deserialize(
     out.push_str("    }\n}\n\n")
 }
 
-fn put_header(
-    alloc: Global,
-    out: &mut String,
-    parameter: &Parameter,
-    this: &str,
-) -> Result<(), AllocError> {
+fn put_header(alloc: Global, out: &mut String, parameter: &Parameter, this: &str) -> Made<()> {
     let line = match parameter {
         Parameter::Nothing => format!(in alloc; "impl<S: Source> Deserialize<S> for {this} {{\n")?,
         Parameter::Lifetime(p) => {
@@ -77,18 +68,13 @@ fn put_header(
 }
 
 /// Appends what the fields are where they are missing.
-pub fn put_presences(alloc: Global, out: &mut String, fields: &[Field]) -> Result<(), AllocError> {
+pub fn put_presences(alloc: Global, out: &mut String, fields: &[Field]) -> Made<()> {
     let presences = pairs(alloc, &presences(alloc, fields)?, "()")?;
     write!(out, "        let presences = {presences};\n")
 }
 
 // Appends the call that reads a struct from a map.
-fn put_struct(
-    alloc: Global,
-    out: &mut String,
-    name: &str,
-    fields: &[Field],
-) -> Result<(), AllocError> {
+fn put_struct(alloc: Global, out: &mut String, name: &str, fields: &[Field]) -> Made<()> {
     let missing = list(alloc, &missing(alloc, fields)?)?;
     write!(out, "        let missing = [{missing}];\n")?;
     put_presences(alloc, out, fields)?;

@@ -1,13 +1,13 @@
 //! `impl From`.
-use crate::print::layout::{COLUMNS, list, pairs, put_record, width};
+use crate::print::layout::{COLUMNS, Made, list, pairs, put_record, width};
 use crate::print::lists::{made_fields, names, types};
 use crate::print::types::{generics, letter, self_type};
 use crate::print::variants::put_from_choice;
 use crate::shape::{Described, Field, Shape};
-use std::alloc::{AllocError, Global};
+use std::alloc::Global;
 
 /// Appends how a type is made of what was read.
-pub fn put_from(alloc: Global, out: &mut String, described: &Described) -> Result<(), AllocError> {
+pub fn put_from(alloc: Global, out: &mut String, described: &Described) -> Made<()> {
     let this = self_type(alloc, described)?;
     let generics = generics(alloc, &described.parameter, "")?;
     let letter = letter(described.name.as_str());
@@ -30,7 +30,7 @@ fn put_struct(
     out: &mut String,
     described: &Described,
     fields: &[Field],
-) -> Result<(), AllocError> {
+) -> Made<()> {
     let this = self_type(alloc, described)?;
     let name = described.name.as_str();
     let generics = generics(alloc, &described.parameter, "")?;
@@ -55,7 +55,7 @@ fn put_values(
     out: &mut String,
     described: &Described,
     fields: &[Field],
-) -> Result<String, AllocError> {
+) -> Made<String> {
     let values = pairs(alloc, &types(alloc, fields)?, "()")?;
     let this = self_type(alloc, described)?;
     let generics = generics(alloc, &described.parameter, "")?;

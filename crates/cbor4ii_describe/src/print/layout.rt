@@ -2,6 +2,9 @@
 //! in a ghost or its imports, and puts no call into a block: that is done here and in `uses`.
 use std::alloc::{AllocError, Global};
 
+/// What is made, or that no memory is found for it.
+pub type Made<T> = Result<T, AllocError>;
+
 /// How many columns a line has at most.
 pub const COLUMNS: usize = 100;
 
@@ -14,7 +17,7 @@ pub fn width(text: &str) -> usize {
 }
 
 /// The items with this text between them.
-pub fn joined(alloc: Global, items: &[String], between: &str) -> Result<String, AllocError> {
+pub fn joined(alloc: Global, items: &[String], between: &str) -> Made<String> {
     let mut text = String::new(alloc);
     for (i, item) in items.iter().enumerate() {
         if i != 0 {
@@ -26,12 +29,12 @@ pub fn joined(alloc: Global, items: &[String], between: &str) -> Result<String, 
 }
 
 /// The items with commas between them.
-pub fn list(alloc: Global, items: &[String]) -> Result<String, AllocError> {
+pub fn list(alloc: Global, items: &[String]) -> Made<String> {
     joined(alloc, items, ", ")
 }
 
 /// The items as pairs, each of an item and what follows it, with `last` behind them.
-pub fn pairs(alloc: Global, items: &[String], last: &str) -> Result<String, AllocError> {
+pub fn pairs(alloc: Global, items: &[String], last: &str) -> Made<String> {
     nested(alloc, "(", items, last, ")")
 }
 
@@ -42,7 +45,7 @@ pub fn nested(
     items: &[String],
     last: &str,
     close: &str,
-) -> Result<String, AllocError> {
+) -> Made<String> {
     let mut text = String::new(alloc);
     for item in items {
         write!(text, "{open}{item}, ")?;
@@ -55,7 +58,7 @@ pub fn nested(
 }
 
 /// The pairs of a ghost: behind the bracket of each wide one its line ends, so that it is broken.
-pub fn ghost_pairs(alloc: Global, items: &[String], last: &str) -> Result<String, AllocError> {
+pub fn ghost_pairs(alloc: Global, items: &[String], last: &str) -> Made<String> {
     let mut text = String::from_str(alloc, last)?;
     for item in items.iter().rev() {
         let inner = format!(in alloc; "{item}, {text}")?;
@@ -77,7 +80,7 @@ pub fn put_record(
     before: &str,
     fields: &[String],
     after: &str,
-) -> Result<(), AllocError> {
+) -> Made<()> {
     let fields = joined(alloc, fields, "; ")?;
     let line = format!(in alloc; "{before}record {{ {fields} }}{after}")?;
     if width(line.as_str()) <= COLUMNS {
@@ -88,7 +91,7 @@ pub fn put_record(
 }
 
 /// Appends a part of a ghost and its codec: on one line, or where that has no room on two.
-pub fn put_with_codec(out: &mut String, begin: &str, codec: &str) -> Result<(), AllocError> {
+pub fn put_with_codec(out: &mut String, begin: &str, codec: &str) -> Made<()> {
     let wide = width(begin).saturating_add(width(codec));
     let gap = if wide.saturating_add(9) <= COLUMNS {
         " "
@@ -100,7 +103,7 @@ pub fn put_with_codec(out: &mut String, begin: &str, codec: &str) -> Result<(), 
 
 /// Appends an arm of a match in a method. What it gives stands in a block where one line has no
 /// room.
-pub fn put_arm(out: &mut String, pattern: &str, value: &str) -> Result<(), AllocError> {
+pub fn put_arm(out: &mut String, pattern: &str, value: &str) -> Made<()> {
     let wide = width(pattern).saturating_add(width(value));
     if wide.saturating_add(17) <= COLUMNS {
         write!(out, "            {pattern} => {value},\n")

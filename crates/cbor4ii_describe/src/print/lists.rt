@@ -2,38 +2,42 @@
 ghost use Rattle.std.specs.Prelude.{◌≡◌, IfOk, string_bytes};
 ghost use Rattle.cbor4ii_describe.specs.Text.{key_code, presence_code};
 
+use crate::print::layout::Made;
 use crate::shape::{Field, Key, Presence};
-use std::alloc::{AllocError, Global};
+use std::alloc::Global;
+
+/// A text of each field.
+pub fn each<F>(alloc: Global, fields: &[Field], text: F) -> Made<Vec<String>>
+where
+    F: Fn(&Field) -> Made<String>,
+    requires { F.IsAlwaysCallable text }
+{
+    let mut texts = Vec::new(alloc);
+    for field in fields {
+        texts.push(text(field)?)?;
+    }
+    Ok(texts)
+}
 
 /// The fields' names.
-pub fn names(alloc: Global, fields: &[Field]) -> Result<Vec<String>, AllocError> {
-    let mut names = Vec::new(alloc);
-    for field in fields {
-        names.push(String::from_str(alloc, field.name.as_str())?)?;
-    }
-    Ok(names)
+pub fn names(alloc: Global, fields: &[Field]) -> Made<Vec<String>> {
+    each(alloc, fields, |f| String::from_str(alloc, f.name.as_str()))
 }
 
 /// The fields' types.
-pub fn types(alloc: Global, fields: &[Field]) -> Result<Vec<String>, AllocError> {
-    let mut types = Vec::new(alloc);
-    for field in fields {
-        types.push(String::from_str(alloc, field.its_type.as_str())?)?;
-    }
-    Ok(types)
+pub fn types(alloc: Global, fields: &[Field]) -> Made<Vec<String>> {
+    each(alloc, fields, |f| {
+        String::from_str(alloc, f.its_type.as_str())
+    })
 }
 
 /// What the fields are written under, as code.
-pub fn keys(alloc: Global, fields: &[Field]) -> Result<Vec<String>, AllocError> {
-    let mut keys = Vec::new(alloc);
-    for field in fields {
-        keys.push(key(alloc, &field.key)?)?;
-    }
-    Ok(keys)
+pub fn keys(alloc: Global, fields: &[Field]) -> Made<Vec<String>> {
+    each(alloc, fields, |field| key(alloc, &field.key))
 }
 
 /// A key as code: a name in quotes, or an integer.
-pub fn key(alloc: Global, key: &Key) -> Result<String, AllocError>
+pub fn key(alloc: Global, key: &Key) -> Made<String>
     ensures { IfOk result (λ text. string_bytes text ≡ key_code key.now) }
 {
     match key {
@@ -44,27 +48,17 @@ pub fn key(alloc: Global, key: &Key) -> Result<String, AllocError>
 }
 
 /// The fields of this value, by reference.
-pub fn references(alloc: Global, fields: &[Field]) -> Result<Vec<String>, AllocError> {
-    let mut references = Vec::new(alloc);
-    for field in fields {
-        let place = field.name.as_str();
-        references.push(format!(in alloc; "&self.{place}")?)?;
-    }
-    Ok(references)
+pub fn references(alloc: Global, fields: &[Field]) -> Made<Vec<String>> {
+    each(alloc, fields, |f| format!(in alloc; "&self.{}", f.name))
 }
 
 /// The fields of the value that this letter stands for.
-pub fn places(alloc: Global, letter: char, fields: &[Field]) -> Result<Vec<String>, AllocError> {
-    let mut places = Vec::new(alloc);
-    for field in fields {
-        let name = field.name.as_str();
-        places.push(format!(in alloc; "{letter}.{name}")?)?;
-    }
-    Ok(places)
+pub fn places(alloc: Global, letter: char, fields: &[Field]) -> Made<Vec<String>> {
+    each(alloc, fields, |f| format!(in alloc; "{letter}.{}", f.name))
 }
 
 /// The fields of a struct in a ghost, each with its place in the values.
-pub fn made_fields(alloc: Global, fields: &[Field]) -> Result<Vec<String>, AllocError> {
+pub fn made_fields(alloc: Global, fields: &[Field]) -> Made<Vec<String>> {
     let mut made = Vec::new(alloc);
     for (i, field) in fields.iter().enumerate() {
         let place = pair_place(alloc, i)?;
@@ -74,7 +68,7 @@ pub fn made_fields(alloc: Global, fields: &[Field]) -> Result<Vec<String>, Alloc
 }
 
 /// Where an item stands in nested pairs, behind so many others.
-pub fn pair_place(alloc: Global, others: usize) -> Result<String, AllocError> {
+pub fn pair_place(alloc: Global, others: usize) -> Made<String> {
     let mut place = String::new(alloc);
     for _ in 0..others {
         place.push_str(".1")?;
@@ -84,15 +78,11 @@ pub fn pair_place(alloc: Global, others: usize) -> Result<String, AllocError> {
 }
 
 /// What each field is where it is missing, as code.
-pub fn presences(alloc: Global, fields: &[Field]) -> Result<Vec<String>, AllocError> {
-    let mut presences = Vec::new(alloc);
-    for field in fields {
-        presences.push(presence(alloc, field)?)?;
-    }
-    Ok(presences)
+pub fn presences(alloc: Global, fields: &[Field]) -> Made<Vec<String>> {
+    each(alloc, fields, |field| presence(alloc, field))
 }
 
-fn presence(alloc: Global, field: &Field) -> Result<String, AllocError>
+fn presence(alloc: Global, field: &Field) -> Made<String>
     ensures { IfOk result (λ text. string_bytes text ≡ presence_code field.now) }
 {
     match &field.presence {
@@ -107,7 +97,7 @@ fn presence(alloc: Global, field: &Field) -> Result<String, AllocError>
 
 /// What is said of fields that are missing or come twice, in quotes and by their places, up to the
 /// last one of which something is said.
-pub fn missing(alloc: Global, fields: &[Field]) -> Result<Vec<String>, AllocError> {
+pub fn missing(alloc: Global, fields: &[Field]) -> Made<Vec<String>> {
     let mut missing = Vec::new(alloc);
     for field in fields.iter().take(last_told(fields)) {
         let words = if field.is_told() {

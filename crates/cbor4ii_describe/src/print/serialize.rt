@@ -2,19 +2,15 @@
 ghost use Rattle.std.specs.Prelude.{◌≡◌, ◌≢◌, ◌++◌, IfOk, OnOk, codes, decimal, string_bytes};
 ghost use Rattle.cbor4ii_describe.specs.Text.{newtype_line};
 
-use crate::print::layout::{list, pairs};
-use crate::print::lists::{key, keys, references};
+use crate::print::layout::{Made, list, pairs};
+use crate::print::lists::{each, key, keys, references};
 use crate::print::types::{generics, self_type};
 use crate::print::variants::put_match;
 use crate::shape::{Described, Field, Form, MOST_CALLED, Presence, Shape, leaves_out};
-use std::alloc::{AllocError, Global};
+use std::alloc::Global;
 
 /// Appends how a type is written.
-pub fn put_serialize(
-    alloc: Global,
-    out: &mut String,
-    described: &Described,
-) -> Result<(), AllocError> {
+pub fn put_serialize(alloc: Global, out: &mut String, described: &Described) -> Made<()> {
     let this = self_type(alloc, described)?;
     let generics = generics(alloc, &described.parameter, ": AsDescribed")?;
     write!(
@@ -34,7 +30,7 @@ pub fn put_serialize(
 }
 
 // Appends the call that writes a newtype, behind a tag where there is one.
-fn put_newtype(out: &mut String, tag: Option<u64>) -> Result<(), AllocError>
+fn put_newtype(out: &mut String, tag: Option<u64>) -> Made<()>
     ensures { OnOk result (string_bytes out.new
         ≡ string_bytes out.old ++ newtype_line tag) }
 {
@@ -50,7 +46,7 @@ fn put_struct(
     name: &str,
     form: Form,
     fields: &[Field],
-) -> Result<(), AllocError> {
+) -> Made<()> {
     match form {
         Form::Array => put_elements(alloc, out, fields),
         Form::Named if !leaves_out(fields) && fields.len() <= MOST_CALLED => {
@@ -62,18 +58,13 @@ fn put_struct(
     }
 }
 
-fn put_elements(alloc: Global, out: &mut String, fields: &[Field]) -> Result<(), AllocError> {
+fn put_elements(alloc: Global, out: &mut String, fields: &[Field]) -> Made<()> {
     let values = pairs(alloc, &references(alloc, fields)?, "()")?;
     write!(out, "        ser.serialize_elements(&{values})\n")
 }
 
 // For integer keys, many fields, or fields that may be left out.
-fn put_listed(
-    alloc: Global,
-    out: &mut String,
-    name: &str,
-    fields: &[Field],
-) -> Result<(), AllocError> {
+fn put_listed(alloc: Global, out: &mut String, name: &str, fields: &[Field]) -> Made<()> {
     let values = list(alloc, &values(alloc, fields)?)?;
     let comma = if fields.len() == 1 { "," } else { "" };
     write!(out, "        let fields = ({values}{comma});\n")?;
@@ -85,7 +76,7 @@ fn put_listed(
 }
 
 // The call that writes so many fields, up to its bracket.
-fn call(alloc: Global, count: usize) -> Result<String, AllocError>
+fn call(alloc: Global, count: usize) -> Made<String>
     ensures one { count ≡ 1 →
         IfOk result (λ text. string_bytes text ≡ codes "ser.serialize_1_field(") }
     ensures more { count ≢ 1 → IfOk result (λ text. string_bytes text
@@ -98,7 +89,7 @@ fn call(alloc: Global, count: usize) -> Result<String, AllocError>
 }
 
 // The arguments of the call: the type's name, and each field's name and value.
-fn arguments(alloc: Global, name: &str, fields: &[Field]) -> Result<Vec<String>, AllocError> {
+fn arguments(alloc: Global, name: &str, fields: &[Field]) -> Made<Vec<String>> {
     let mut arguments = Vec::new(alloc);
     arguments.push(format!(in alloc; "\"{name}\"")?)?;
     for field in fields {
@@ -109,14 +100,9 @@ fn arguments(alloc: Global, name: &str, fields: &[Field]) -> Result<Vec<String>,
     Ok(arguments)
 }
 
-fn values(alloc: Global, fields: &[Field]) -> Result<Vec<String>, AllocError> {
-    let mut values = Vec::new(alloc);
-    for field in fields {
-        let place = field.name.as_str();
-        values.push(match field.presence {
-            Presence::LeftOut => format!(in alloc; "IfSome(&self.{place})")?,
-            _ => format!(in alloc; "&self.{place}")?,
-        })?;
-    }
-    Ok(values)
+fn values(alloc: Global, fields: &[Field]) -> Made<Vec<String>> {
+    each(alloc, fields, |field| match field.presence {
+        Presence::LeftOut => format!(in alloc; "IfSome(&self.{})", field.name),
+        _ => format!(in alloc; "&self.{}", field.name),
+    })
 }

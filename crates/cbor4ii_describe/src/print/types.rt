@@ -2,11 +2,12 @@
 ghost use Rattle.std.specs.Prelude.{◌≡◌, IfOk, string_bytes};
 ghost use Rattle.cbor4ii_describe.specs.Text.{self_type, generics};
 
+use crate::print::layout::Made;
 use crate::shape::{Described, Parameter};
-use std::alloc::{AllocError, Global};
+use std::alloc::Global;
 
 /// The type with its parameter, as `Page<T>`.
-pub fn self_type(alloc: Global, described: &Described) -> Result<String, AllocError>
+pub fn self_type(alloc: Global, described: &Described) -> Made<String>
     ensures { IfOk result (λ text. string_bytes text ≡ self_type described.now) }
 {
     let name = described.name.as_str();
@@ -17,7 +18,7 @@ pub fn self_type(alloc: Global, described: &Described) -> Result<String, AllocEr
 }
 
 /// What stands behind `impl`, with this bound on a type parameter.
-pub fn generics(alloc: Global, parameter: &Parameter, bound: &str) -> Result<String, AllocError>
+pub fn generics(alloc: Global, parameter: &Parameter, bound: &str) -> Made<String>
     ensures { IfOk result (λ text. string_bytes text ≡ generics parameter.now bound.now) }
 {
     match parameter {

@@ -1,9 +1,9 @@
 //! What the impls import.
 use crate::print::codec::held_type;
-use crate::print::layout::{COLUMNS, list, width};
+use crate::print::layout::{COLUMNS, Made, list, width};
 use crate::shape::{Content, Described, Field, Form, Key, Parameter, Presence, Shape, Variant};
 use crate::types::mentions;
-use std::alloc::{AllocError, Global};
+use std::alloc::Global;
 
 // What a name is imported for.
 #[derive(Clone, Copy, PartialEq, Eq)]
@@ -48,84 +48,51 @@ enum For {
     OrFalse,
 }
 
-// A file of ghost words.
-#[derive(Clone, Copy, PartialEq, Eq)]
-enum File {
-    Prelude,
-    Common,
-    Codec,
-    CodecAgrees,
-    CodecCases,
-    CodecElements,
-    CodecFields,
-    CodecItems,
-    Fields,
-    Keys,
-    ParseError,
-    Choice,
-}
-
-fn path(file: File) -> &'static str {
-    match file {
-        File::Prelude => "std.specs.Prelude",
-        File::Common => "std.proofs.Common",
-        File::Codec => "cbor4ii.specs.Codec",
-        File::CodecAgrees => "cbor4ii.specs.CodecAgrees",
-        File::CodecCases => "cbor4ii.specs.CodecCases",
-        File::CodecElements => "cbor4ii.specs.CodecElements",
-        File::CodecFields => "cbor4ii.specs.CodecFields",
-        File::CodecItems => "cbor4ii.specs.CodecItems",
-        File::Fields => "cbor4ii.specs.Fields",
-        File::Keys => "cbor4ii.specs.Keys",
-        File::ParseError => "std.specs.declared.string.ParseError",
-        File::Choice => "cbor4ii.specs.declared.serde.de.cases.Choice.TheVariants",
-    }
+// An array of rows: a row a line.
+macro_rules! table {
+    ($($row:tt)*) => { [$($row)*] };
 }
 
 // The ghost words: where each is defined, and what it is imported for.
-const WORDS: [(File, &str, For); 37] = [
-    (File::Prelude, "◌≡◌", For::Each),
-    (File::Prelude, "None", For::OrNone),
-    (File::Prelude, "true", For::OrTrue),
-    (File::Prelude, "false", For::OrFalse),
-    (File::Prelude, "codes", For::Codes),
-    (File::Prelude, "pos", For::Pos),
-    (File::Common, "refl", For::Each),
-    (File::Codec, "codec_of", For::Newtype),
-    (File::Codec, "option_codec", For::OptionOfParameter),
-    (File::Codec, "vector_codec", For::VectorOfParameter),
-    (File::CodecAgrees, "as_described", For::Each),
-    (File::CodecAgrees, "its_codec", For::Parameter),
-    (File::CodecAgrees, "both_are", For::ParameterOfField),
-    (File::CodecCases, "enum_codec", For::Enum),
-    (File::CodecCases, "unit_variant", For::Unit),
-    (File::CodecCases, "variant", For::Items),
-    (File::CodecCases, "variant_of_fields", For::VariantFields),
-    (File::CodecCases, "no_case", For::Enum),
-    (File::CodecElements, "elements_codec", For::Array),
-    (File::CodecElements, "with_element", For::Array),
-    (File::CodecElements, "no_elements", For::Array),
-    (File::CodecFields, "struct_codec", For::Struct),
-    (File::CodecFields, "with_field", For::Plain),
-    (File::CodecFields, "with_field_once", For::PlainOnce),
-    (File::CodecFields, "with_field_or", For::OrElse),
-    (File::CodecFields, "with_field_once_or", For::OrElseOnce),
-    (File::CodecFields, "with_optional_field", For::LeftOutPlain),
-    (
-        File::CodecFields,
-        "with_optional_field_once",
-        For::LeftOutOnce,
-    ),
-    (File::CodecFields, "no_fields", For::Fields),
-    (File::CodecFields, "no_keys", For::Keyed),
-    (File::CodecItems, "tagged_codec", For::Tag),
-    (File::Fields, "no_values", For::Values),
-    (File::Keys, "plus", For::Positive),
-    (File::Keys, "minus", For::Negative),
-    (File::ParseError, "Infallible", For::Enum),
-    (File::Choice, "First", For::Enum),
-    (File::Choice, "Other", For::Enum),
-];
+const WORDS: [(&str, &str, For); 37] = table! {
+    ("std.specs.Prelude", "◌≡◌", For::Each),
+    ("std.specs.Prelude", "None", For::OrNone),
+    ("std.specs.Prelude", "true", For::OrTrue),
+    ("std.specs.Prelude", "false", For::OrFalse),
+    ("std.specs.Prelude", "codes", For::Codes),
+    ("std.specs.Prelude", "pos", For::Pos),
+    ("std.proofs.Common", "refl", For::Each),
+    ("cbor4ii.specs.Codec", "codec_of", For::Newtype),
+    ("cbor4ii.specs.Codec", "option_codec", For::OptionOfParameter),
+    ("cbor4ii.specs.Codec", "vector_codec", For::VectorOfParameter),
+    ("cbor4ii.specs.CodecAgrees", "as_described", For::Each),
+    ("cbor4ii.specs.CodecAgrees", "its_codec", For::Parameter),
+    ("cbor4ii.specs.CodecAgrees", "both_are", For::ParameterOfField),
+    ("cbor4ii.specs.CodecCases", "enum_codec", For::Enum),
+    ("cbor4ii.specs.CodecCases", "unit_variant", For::Unit),
+    ("cbor4ii.specs.CodecCases", "variant", For::Items),
+    ("cbor4ii.specs.CodecCases", "variant_of_fields", For::VariantFields),
+    ("cbor4ii.specs.CodecCases", "no_case", For::Enum),
+    ("cbor4ii.specs.CodecElements", "elements_codec", For::Array),
+    ("cbor4ii.specs.CodecElements", "with_element", For::Array),
+    ("cbor4ii.specs.CodecElements", "no_elements", For::Array),
+    ("cbor4ii.specs.CodecFields", "struct_codec", For::Struct),
+    ("cbor4ii.specs.CodecFields", "with_field", For::Plain),
+    ("cbor4ii.specs.CodecFields", "with_field_once", For::PlainOnce),
+    ("cbor4ii.specs.CodecFields", "with_field_or", For::OrElse),
+    ("cbor4ii.specs.CodecFields", "with_field_once_or", For::OrElseOnce),
+    ("cbor4ii.specs.CodecFields", "with_optional_field", For::LeftOutPlain),
+    ("cbor4ii.specs.CodecFields", "with_optional_field_once", For::LeftOutOnce),
+    ("cbor4ii.specs.CodecFields", "no_fields", For::Fields),
+    ("cbor4ii.specs.CodecFields", "no_keys", For::Keyed),
+    ("cbor4ii.specs.CodecItems", "tagged_codec", For::Tag),
+    ("cbor4ii.specs.Fields", "no_values", For::Values),
+    ("cbor4ii.specs.Keys", "plus", For::Positive),
+    ("cbor4ii.specs.Keys", "minus", For::Negative),
+    ("std.specs.declared.string.ParseError", "Infallible", For::Enum),
+    ("cbor4ii.specs.declared.serde.de.cases.Choice.TheVariants", "First", For::Enum),
+    ("cbor4ii.specs.declared.serde.de.cases.Choice.TheVariants", "Other", For::Enum),
+};
 
 // The names of `cbor4ii::serde`, in order.
 const NAMES: [(&str, For); 21] = [
@@ -153,7 +120,7 @@ const NAMES: [(&str, For); 21] = [
 ];
 
 /// Appends what these types import, and an empty line.
-pub fn put_uses(alloc: Global, out: &mut String, types: &[Described]) -> Result<(), AllocError> {
+pub fn put_uses(alloc: Global, out: &mut String, types: &[Described]) -> Made<()> {
     put_words(out, types)?;
     out.push('\n')?;
     if is_wanted(types, For::AnyReader) {
@@ -181,7 +148,7 @@ pub fn put_uses(alloc: Global, out: &mut String, types: &[Described]) -> Result<
 }
 
 // Appends the lines of the ghost words: as many words of one file on a line as it has room for.
-fn put_words(out: &mut String, types: &[Described]) -> Result<(), AllocError> {
+fn put_words(out: &mut String, types: &[Described]) -> Made<()> {
     let mut open = None;
     let mut at: usize = 0;
     for (file, word, why) in WORDS {
@@ -192,10 +159,8 @@ fn put_words(out: &mut String, types: &[Described]) -> Result<(), AllocError> {
                 at = at.saturating_add(more);
             } else {
                 end_line(out, open.is_some())?;
-                begin_line(out, path(file), word)?;
-                at = width(path(file))
-                    .saturating_add(width(word))
-                    .saturating_add(21);
+                begin_line(out, file, word)?;
+                at = width(file).saturating_add(width(word)).saturating_add(21);
             }
             open = Some(file);
         }
@@ -209,7 +174,7 @@ fn put_words(out: &mut String, types: &[Described]) -> Result<(), AllocError> {
     Ok(())
 }
 
-fn put_own(out: &mut String, module: &str, name: &str) -> Result<(), AllocError> {
+fn put_own(out: &mut String, module: &str, name: &str) -> Made<()> {
     out.push_str("ghost use Rattle")?;
     for (i, part) in module.split("::").enumerate() {
         write!(out, ".{part}")?;
@@ -220,11 +185,11 @@ fn put_own(out: &mut String, module: &str, name: &str) -> Result<(), AllocError>
     write!(out, ".{name}.{{{name}}};\n")
 }
 
-fn begin_line(out: &mut String, file: &str, word: &str) -> Result<(), AllocError> {
+fn begin_line(out: &mut String, file: &str, word: &str) -> Made<()> {
     write!(out, "ghost use Rattle.{file}.{{{word}")
 }
 
-fn end_line(out: &mut String, is_open: bool) -> Result<(), AllocError> {
+fn end_line(out: &mut String, is_open: bool) -> Made<()> {
     if is_open {
         out.push_str("};\n")
     } else {
@@ -232,7 +197,7 @@ fn end_line(out: &mut String, is_open: bool) -> Result<(), AllocError> {
     }
 }
 
-fn serde_names(alloc: Global, types: &[Described]) -> Result<Vec<String>, AllocError> {
+fn serde_names(alloc: Global, types: &[Described]) -> Made<Vec<String>> {
     let mut names = Vec::new(alloc);
     for (name, why) in NAMES {
         if is_wanted(types, why) {

@@ -1,17 +1,17 @@
 //! The parts of the impls of an enum that go by its variants.
-use crate::fault::Fault;
+use crate::fault::OrFault;
 use crate::print::codec::put_fields;
 use crate::print::deserialize::put_presences;
-use crate::print::layout::{joined, list, nested, pairs, put_arm, put_with_codec};
+use crate::print::layout::{Made, joined, list, nested, pairs, put_arm, put_with_codec};
 use crate::print::lists::{keys, missing, names, pair_place, types};
 use crate::print::types::letter;
 use crate::shape::{Content, Described, Field, Form, Parameter, Variant};
-use std::alloc::{AllocError, Global};
+use std::alloc::Global;
 
 // The names of a variant's parts, in a ghost and where they have none.
 const PLACES: [&str; 4] = ["first", "second", "third", "fourth"];
 
-fn place_names(alloc: Global, count: usize) -> Result<Vec<String>, AllocError> {
+fn place_names(alloc: Global, count: usize) -> Made<Vec<String>> {
     let mut names = Vec::new(alloc);
     for name in PLACES.iter().take(count) {
         names.push(String::from_str(alloc, name)?)?;
@@ -19,12 +19,12 @@ fn place_names(alloc: Global, count: usize) -> Result<Vec<String>, AllocError> {
     Ok(names)
 }
 
-fn quoted(alloc: Global, text: &str) -> Result<String, AllocError> {
+fn quoted(alloc: Global, text: &str) -> Made<String> {
     format!(in alloc; "\"{text}\"")
 }
 
 // A variant and its parts, as a pattern or as a value.
-fn parts(alloc: Global, name: &str, variant: &Variant) -> Result<String, AllocError> {
+fn parts(alloc: Global, name: &str, variant: &Variant) -> Made<String> {
     let path = format!(in alloc; "{name}::{}", variant.name)?;
     match &variant.holds {
         Content::Nothing => Ok(path),
@@ -45,7 +45,7 @@ pub fn put_match(
     out: &mut String,
     described: &Described,
     variants: &[Variant],
-) -> Result<(), AllocError> {
+) -> Made<()> {
     out.push_str("        match self {\n")?;
     for (i, variant) in variants.iter().enumerate() {
         let pattern = parts(alloc, described.name.as_str(), variant)?;
@@ -56,12 +56,7 @@ pub fn put_match(
 }
 
 // The call that writes a variant, which has this place in its enum.
-fn writing(
-    alloc: Global,
-    label: &str,
-    place: usize,
-    variant: &Variant,
-) -> Result<String, AllocError> {
+fn writing(alloc: Global, label: &str, place: usize, variant: &Variant) -> Made<String> {
     let mut items = Vec::new(alloc);
     items.push(quoted(alloc, label)?)?;
     items.push(format!(in alloc; "{place}")?)?;
@@ -81,7 +76,7 @@ fn writing(
 }
 
 // What a variant of so many items gives to be written: its only one, or a tuple.
-fn held(alloc: Global, count: usize) -> Result<String, AllocError> {
+fn held(alloc: Global, count: usize) -> Made<String> {
     let names = place_names(alloc, count)?;
     if count == 1 {
         list(alloc, &names)
@@ -90,7 +85,7 @@ fn held(alloc: Global, count: usize) -> Result<String, AllocError> {
     }
 }
 
-fn push_named(alloc: Global, items: &mut Vec<String>, fields: &[Field]) -> Result<(), AllocError> {
+fn push_named(alloc: Global, items: &mut Vec<String>, fields: &[Field]) -> Made<()> {
     let keys = keys(alloc, fields)?;
     for (key, field) in keys.into_iter().zip(fields) {
         items.push(key)?;
@@ -100,7 +95,7 @@ fn push_named(alloc: Global, items: &mut Vec<String>, fields: &[Field]) -> Resul
 }
 
 // The call that writes a variant of so many fields, up to its bracket.
-fn writing_fields(alloc: Global, count: usize) -> Result<String, AllocError> {
+fn writing_fields(alloc: Global, count: usize) -> Made<String> {
     match count {
         1 => String::from_str(alloc, "ser.serialize_variant_of_1_field("),
         _ => format!(in alloc; "ser.serialize_variant_of_{count}_fields("),
@@ -114,7 +109,7 @@ pub fn put_variants(
     label: &str,
     words: &str,
     variants: &[Variant],
-) -> Result<(), AllocError> {
+) -> Made<()> {
     let mut labels = Vec::new(alloc);
     for variant in variants {
         labels.push(quoted(alloc, variant.label.as_str())?)?;
@@ -146,7 +141,7 @@ fn put_others(
     variants: &[Variant],
     begin: usize,
     end: usize,
-) -> Result<(), AllocError> {
+) -> Made<()> {
     let mut cases = Vec::new(alloc);
     for variant in variants.get(begin..end).unwrap_or(&[]) {
         let case = match variant.holds {
@@ -162,7 +157,7 @@ fn put_others(
     write!(out, "        let others = {others};\n")
 }
 
-fn put_reading(alloc: Global, out: &mut String, fields: &[Field]) -> Result<(), AllocError> {
+fn put_reading(alloc: Global, out: &mut String, fields: &[Field]) -> Made<()> {
     let names = list(alloc, &keys(alloc, fields)?)?;
     let missing = list(alloc, &missing(alloc, fields)?)?;
     write!(
@@ -182,7 +177,7 @@ pub fn put_from_choice(
     out: &mut String,
     name: &str,
     variants: &[Variant],
-) -> Result<(), AllocError> {
+) -> Made<()> {
     put_choice(alloc, out, name, variants)?;
     let letter = letter(name);
     write!(
@@ -214,12 +209,7 @@ pub fn put_from_choice(
 }
 
 // Appends the type of what is read of an enum.
-fn put_choice(
-    alloc: Global,
-    out: &mut String,
-    name: &str,
-    variants: &[Variant],
-) -> Result<(), AllocError> {
+fn put_choice(alloc: Global, out: &mut String, name: &str, variants: &[Variant]) -> Made<()> {
     let mut contents = Vec::new(alloc);
     for variant in variants {
         contents.push(content_type(alloc, variant)?)?;
@@ -229,7 +219,7 @@ fn put_choice(
 }
 
 // The type of what a variant holds, in a case or in the codec.
-fn content_type(alloc: Global, variant: &Variant) -> Result<String, AllocError> {
+fn content_type(alloc: Global, variant: &Variant) -> Made<String> {
     match &variant.holds {
         Content::Nothing => String::from_str(alloc, "()"),
         Content::Items(items) => tuple(alloc, items),
@@ -237,7 +227,7 @@ fn content_type(alloc: Global, variant: &Variant) -> Result<String, AllocError> 
     }
 }
 
-fn tuple(alloc: Global, items: &[String]) -> Result<String, AllocError> {
+fn tuple(alloc: Global, items: &[String]) -> Made<String> {
     let items_text = list(alloc, items)?;
     if items.len() == 1 {
         Ok(items_text)
@@ -247,7 +237,7 @@ fn tuple(alloc: Global, items: &[String]) -> Result<String, AllocError> {
 }
 
 // The pattern of what is read of the variant of this place.
-fn chosen(alloc: Global, place: usize, variant: &Variant) -> Result<String, AllocError> {
+fn chosen(alloc: Global, place: usize, variant: &Variant) -> Made<String> {
     let held = match &variant.holds {
         Content::Nothing => String::from_str(alloc, "()")?,
         Content::Items(items) => tuple(alloc, &place_names(alloc, items.len())?)?,
@@ -259,7 +249,7 @@ fn chosen(alloc: Global, place: usize, variant: &Variant) -> Result<String, Allo
 }
 
 // The first choice, behind so many others: each is this word and a bracket.
-fn among(alloc: Global, place: usize, other: &str, first: &str) -> Result<String, AllocError> {
+fn among(alloc: Global, place: usize, other: &str, first: &str) -> Made<String> {
     let mut text = String::new(alloc);
     for _ in 0..place {
         text.push_str(other)?;
@@ -272,12 +262,7 @@ fn among(alloc: Global, place: usize, other: &str, first: &str) -> Result<String
 }
 
 // Appends which choice each variant is, by cases.
-fn put_cases(
-    alloc: Global,
-    out: &mut String,
-    name: &str,
-    variants: &[Variant],
-) -> Result<(), AllocError> {
+fn put_cases(alloc: Global, out: &mut String, name: &str, variants: &[Variant]) -> Made<()> {
     for (i, variant) in variants.iter().enumerate() {
         put_case(alloc, out, name, variant)?;
         write!(out, "{}\n", ghost_choice(alloc, i, variant)?)?;
@@ -286,12 +271,7 @@ fn put_cases(
 }
 
 // Appends what begins the case of a variant in a ghost.
-fn put_case(
-    alloc: Global,
-    out: &mut String,
-    name: &str,
-    variant: &Variant,
-) -> Result<(), AllocError> {
+fn put_case(alloc: Global, out: &mut String, name: &str, variant: &Variant) -> Made<()> {
     write!(out, "| {name}.{}", variant.name)?;
     for place in place_names(alloc, count(variant))? {
         write!(out, " {place}")?;
@@ -300,12 +280,7 @@ fn put_case(
 }
 
 // Appends which variant each choice is, by cases inside one another.
-fn put_made_cases(
-    alloc: Global,
-    out: &mut String,
-    name: &str,
-    variants: &[Variant],
-) -> Result<(), AllocError> {
+fn put_made_cases(alloc: Global, out: &mut String, name: &str, variants: &[Variant]) -> Made<()> {
     out.push_str("[\n")?;
     for (i, variant) in variants.iter().enumerate() {
         write!(out, "| First held ↦ {name}.{}", variant.name)?;
@@ -321,7 +296,7 @@ fn put_made_cases(
 }
 
 // Appends the parts of a variant by their places in what is held.
-fn put_held_places(alloc: Global, out: &mut String, variant: &Variant) -> Result<(), AllocError> {
+fn put_held_places(alloc: Global, out: &mut String, variant: &Variant) -> Made<()> {
     match &variant.holds {
         Content::Nothing => {}
         Content::Items(items) if items.len() == 1 => out.push_str(" held")?,
@@ -348,7 +323,7 @@ fn count(variant: &Variant) -> usize {
 }
 
 // The choice that the variant of this place is, in a ghost.
-fn ghost_choice(alloc: Global, place: usize, variant: &Variant) -> Result<String, AllocError> {
+fn ghost_choice(alloc: Global, place: usize, variant: &Variant) -> Made<String> {
     let names = place_names(alloc, count(variant))?;
     let held = match &variant.holds {
         Content::Nothing => String::from_str(alloc, "tt")?,
@@ -366,7 +341,7 @@ pub fn put_enum_codec(
     name: &str,
     words: &str,
     variants: &[Variant],
-) -> Result<(), Fault> {
+) -> OrFault<()> {
     out.push_str("    ghost codec = { enum_codec (elim [\n")?;
     put_cases(alloc, out, name, variants)?;
     out.push_str("])\n        (elim ")?;
@@ -390,7 +365,7 @@ pub fn put_enum_codec(
     Ok(())
 }
 
-fn put_variant_codec(alloc: Global, out: &mut String, variant: &Variant) -> Result<(), Fault> {
+fn put_variant_codec(alloc: Global, out: &mut String, variant: &Variant) -> OrFault<()> {
     let label = variant.label.as_str();
     match &variant.holds {
         Content::Nothing => write!(out, "        (unit_variant (codes \"{label}\")\n")?,

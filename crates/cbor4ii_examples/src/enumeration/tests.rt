@@ -13,18 +13,16 @@ use cbor4ii::serde::{
     Otherwise, Required, Serialize, Serializer, Typed, Unit, to_writer,
 };
 use cbor4ii_vectors::{mismatch, no_step, table};
+use cbor4ii_vectors_de::takes;
 use cbor4ii_vectors_de::typed::{
-    Answer, BothShown, RowShown, RowShownWithin, Take, come_back, tries_shown,
+    Answer, BothShown, Got, RowShown, RowShownWithin, Take, come_back, tries_shown,
 };
 use std::alloc::Global;
 use std::marker::PhantomData;
 use std::test::Fail;
 
 impl Take for Enum {
-    fn take<S: Source>(
-        alloc: Global,
-        de: &mut Deserializer<S>,
-    ) -> Result<Enum, DecodeError<S::Error>> {
+    fn take<S: Source>(alloc: Global, de: &mut Deserializer<S>) -> Got<Enum, S> {
         read_enum(alloc, de)
     }
 }
@@ -131,22 +129,7 @@ impl<S: Source> Deserialize<S> for Letters {
     }
 }
 
-impl Take for Letters {
-    fn take<S: Source>(
-        alloc: Global,
-        de: &mut Deserializer<S>,
-    ) -> Result<Letters, DecodeError<S::Error>> {
-        Self::deserialize(alloc, de)
-    }
-}
-
-const EMPTY_TEXT: &[BothShown] = table! {
-    (b"\xa1\x61A\x60", "A(\"\")"),
-};
-
-const EMPTY_TEXT_ANSWERED: &[BothShown] = table! {
-    (b"\xa1\x61A\x60", "Is(A(\"\"))"),
-};
+takes!(Letters);
 
 // The empty text of the variant is written into a room that is just as long.
 fn is_written_into_room(alloc: Global) -> Result<bool, Fail> {
@@ -159,6 +142,6 @@ fn is_written_into_room(alloc: Global) -> Result<bool, Fail> {
 fn an_empty_text_in_a_variant_comes_back(rt: HostRuntime) -> Result<(), Fail> {
     let alloc = rt.alloc();
     assert!(rt; is_written_into_room(alloc)?);
-    come_back::<Letters>(alloc, EMPTY_TEXT)?;
-    tries_shown::<Answer<Letters>>(alloc, EMPTY_TEXT_ANSWERED, &[], &[])
+    come_back::<Letters>(alloc, &[(b"\xa1\x61A\x60", "A(\"\")")])?;
+    tries_shown::<Answer<Letters>>(alloc, &[(b"\xa1\x61A\x60", "Is(A(\"\"))")], &[], &[])
 }

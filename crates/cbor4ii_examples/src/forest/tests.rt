@@ -1,31 +1,20 @@
 //! Rows of a struct that holds types which hold themselves.
 use crate::forest::Forest;
-use cbor4ii::dec::Source;
-use cbor4ii::serde::{DecodeError, Deserialize, Deserializer, described_values_are_read_back};
+use cbor4ii::serde::described_values_are_read_back;
 use cbor4ii_vectors::{no_step, table};
-use cbor4ii_vectors_de::typed::{Answer, BothShown, RowShown, RowShownWithin, Take, tries_shown};
-use std::alloc::Global;
+use cbor4ii_vectors_de::takes;
+use cbor4ii_vectors_de::typed::{Answer, BothShown, RowShown, RowShownWithin, tries_shown};
 use std::test::Fail;
 
-impl Take for Forest {
-    fn take<S: Source>(
-        alloc: Global,
-        de: &mut Deserializer<S>,
-    ) -> Result<Self, DecodeError<S::Error>> {
-        Self::deserialize(alloc, de)
-    }
-}
+takes!(Forest);
 
 const FOREST: &str = "Is(Forest { name: \"F\", trees: [Tree { id: 1, name: \"a\", children: [\
 Tree { id: 2, name: \"\", children: [] }] }], border: Pair(Circle(3), Circle(4)) })";
 
 const FORESTS: &[BothShown] = table! {
-    (
-        b"\xa3\x64name\x61F\x65trees\x81\xa3\x62id\x01\x64name\x61a\x68children\x81\
+    (b"\xa3\x64name\x61F\x65trees\x81\xa3\x62id\x01\x64name\x61a\x68children\x81\
 \xa3\x62id\x02\x64name\x60\x68children\x80\x66border\xa1\x64Pair\x82\
-\xa1\x66Circle\x03\xa1\x66Circle\x04",
-        FOREST,
-    ),
+\xa1\x66Circle\x03\xa1\x66Circle\x04", FOREST),
 };
 
 // A tree and a shape are taken whole where they are rejected.

@@ -1,36 +1,24 @@
 //! Rows of a newtype.
 use crate::meters::Meters;
-use cbor4ii::dec::Source;
-use cbor4ii::serde::{DecodeError, Deserialize, Deserializer};
 use cbor4ii_vectors::{mismatch, table};
-use cbor4ii_vectors_de::typed::{
-    Answer, BothShown, Rejected, Take, comes_back, rejects, tries_shown,
-};
-use std::alloc::Global;
+use cbor4ii_vectors_de::takes;
+use cbor4ii_vectors_de::typed::{Answer, BothShown, RowShown, comes_back, tries_shown};
 use std::test::Fail;
 
-impl Take for Meters {
-    fn take<S: Source>(
-        alloc: Global,
-        de: &mut Deserializer<S>,
-    ) -> Result<Self, DecodeError<S::Error>> {
-        Self::deserialize(alloc, de)
-    }
-}
+takes!(Meters);
 
 const LENGTHS: &[BothShown] = table! {
     (b"\x17", "Is(Meters(23))"),
     (b"\x19\x01\xf4", "Is(Meters(500))"),
 };
 
-const LENGTHS_REJECTED: &[Rejected] = table! {
-    (b"\x20", mismatch!("u32", 32), b""),
+const LENGTHS_REJECTED: &[RowShown] = table! {
+    (b"\x20", Err(mismatch!("u32", 32)), b""),
 };
 
 #[test]
 fn lengths_are_written_and_read(rt: HostRuntime) -> Result<(), Fail> {
-    tries_shown::<Answer<Meters>>(rt.alloc(), LENGTHS, &[], &[])?;
-    rejects::<Answer<Meters>>(rt.alloc(), LENGTHS_REJECTED)
+    tries_shown::<Answer<Meters>>(rt.alloc(), LENGTHS, LENGTHS_REJECTED, &[])
 }
 
 #[test]

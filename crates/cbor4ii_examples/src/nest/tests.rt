@@ -1,22 +1,13 @@
 //! Rows of a type that holds values of its own kind.
 use crate::nest::Nest;
-use cbor4ii::dec::Source;
-use cbor4ii::serde::{DecodeError, Deserialize, Deserializer};
 use cbor4ii_vectors::{eof, mismatch, no_step, table};
+use cbor4ii_vectors_de::takes;
 use cbor4ii_vectors_de::typed::{
-    Answer, BothShown, RowShown, RowShownWithin, Take, come_back, tries_shown,
+    Answer, BothShown, RowShown, RowShownWithin, come_back, tries_shown,
 };
-use std::alloc::Global;
 use std::test::Fail;
 
-impl Take for Nest {
-    fn take<S: Source>(
-        alloc: Global,
-        de: &mut Deserializer<S>,
-    ) -> Result<Nest, DecodeError<S::Error>> {
-        Nest::deserialize(alloc, de)
-    }
-}
+takes!(Nest);
 
 const TWO_LISTS: &str =
     "Is(Nest { inner: [Nest { inner: [] }, Nest { inner: [Nest { inner: [] }] }] })";

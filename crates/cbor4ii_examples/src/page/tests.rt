@@ -1,23 +1,14 @@
 //! Rows of a struct over a type parameter.
 use crate::meters::Meters;
 use crate::page::Page;
-use cbor4ii::dec::Source;
-use cbor4ii::serde::{DecodeError, Deserialize, Deserializer};
 use cbor4ii_vectors::{mismatch, no_step, table};
+use cbor4ii_vectors_de::takes;
 use cbor4ii_vectors_de::typed::{
-    Answer, BothShown, RowShown, RowShownWithin, Take, comes_back, tries_shown,
+    Answer, BothShown, RowShown, RowShownWithin, comes_back, tries_shown,
 };
-use std::alloc::Global;
 use std::test::Fail;
 
-impl Take for Page<Meters> {
-    fn take<S: Source>(
-        alloc: Global,
-        de: &mut Deserializer<S>,
-    ) -> Result<Self, DecodeError<S::Error>> {
-        Self::deserialize(alloc, de)
-    }
-}
+takes!(Page<Meters>);
 
 const LAST: &[u8] = b"\xa3\x65total\x02\x67entries\x82\x05\x17\x64next\xf6";
 
@@ -34,19 +25,12 @@ const PAGES_BOTH: &[BothShown] = table! {
 
 // Entries may come first, and a page that has no next one may leave it out.
 const PAGES: &[RowShown] = table! {
-    (
-        b"\xa2\x67entries\x80\x65total\x00",
-        Ok("Is(Page { total: 0, entries: [], next: None })"),
-        b"",
-    ),
+    (b"\xa2\x67entries\x80\x65total\x00", Ok("Is(Page { total: 0, entries: [], next: None })"), b""),
     (b"\xa2\x67entries\x81\x20\x65total\x00", Err(mismatch!("u32", 32)), b"\x65total\x00"),
     (b"\xa1\x65total\x00\x01", Ok("Custom(\"a page has one list of entries\")"), b"\x01"),
     (b"\xa2\x65total\x00\x65total\x00\x01", Ok("Custom(\"a page has one total\")"), b"\x01"),
-    (
-        b"\xa4\x64next\xf6\x65total\x00\x67entries\x80\x64next\x05\x01",
-        Ok("Custom(\"a page has one next\")"),
-        b"\x01",
-    ),
+    (b"\xa4\x64next\xf6\x65total\x00\x67entries\x80\x64next\x05\x01",
+        Ok("Custom(\"a page has one next\")"), b"\x01"),
 };
 
 const PAGES_WITHIN: &[RowShownWithin] = table! {

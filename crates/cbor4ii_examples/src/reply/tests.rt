@@ -1,20 +1,11 @@
 //! Rows of a struct of which a field is left out where it is none.
 use crate::reply::Reply;
-use cbor4ii::dec::Source;
-use cbor4ii::serde::{DecodeError, Deserialize, Deserializer};
 use cbor4ii_vectors::{mismatch, table};
-use cbor4ii_vectors_de::typed::{Answer, BothShown, RowShown, Take, tries_shown};
-use std::alloc::Global;
+use cbor4ii_vectors_de::takes;
+use cbor4ii_vectors_de::typed::{Answer, BothShown, RowShown, tries_shown};
 use std::test::Fail;
 
-impl Take for Reply {
-    fn take<S: Source>(
-        alloc: Global,
-        de: &mut Deserializer<S>,
-    ) -> Result<Self, DecodeError<S::Error>> {
-        Self::deserialize(alloc, de)
-    }
-}
+takes!(Reply);
 
 const REPLIES_BOTH: &[BothShown] = table! {
     (b"\xa1\x66status\x18\xc8", "Is(Reply { status: 200, reason: None, retry: None })"),

@@ -1,20 +1,11 @@
 //! Rows of a struct that is written part by part.
 use crate::sample::Sample;
-use cbor4ii::dec::Source;
-use cbor4ii::serde::{DecodeError, Deserialize, Deserializer};
 use cbor4ii_vectors::{mismatch, no_step, table};
-use cbor4ii_vectors_de::typed::{Answer, RowShown, RowShownWithin, Take, reads_all_shown};
-use std::alloc::Global;
+use cbor4ii_vectors_de::takes;
+use cbor4ii_vectors_de::typed::{Answer, RowShown, RowShownWithin, reads_all_shown};
 use std::test::Fail;
 
-impl Take for Sample {
-    fn take<S: Source>(
-        alloc: Global,
-        de: &mut Deserializer<S>,
-    ) -> Result<Self, DecodeError<S::Error>> {
-        Self::deserialize(alloc, de)
-    }
-}
+takes!(Sample);
 
 const WITHOUT_NOTE: &str = "Is(Sample { sensor: \"t1\", value: -100, note: None })";
 

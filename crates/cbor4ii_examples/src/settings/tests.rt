@@ -1,24 +1,16 @@
 //! Rows of settings, and of the bytes at which their reading fails.
 use crate::settings::{Settings, read_settings};
-use cbor4ii::dec::Source;
 use cbor4ii::error::DecodeError::{Eof, Mismatch};
 use cbor4ii::error::WholeError::{Decode, Trailing};
 use cbor4ii::error::{Len, Never, WholeError};
+use cbor4ii::serde::DecodeError;
 use cbor4ii::serde::DecodeError::{Core, Custom};
-use cbor4ii::serde::{DecodeError, Deserialize, Deserializer};
 use cbor4ii_vectors::table;
-use cbor4ii_vectors_de::typed::{Answer, RowShown, Take, comes_back, reads_all_shown};
-use std::alloc::Global;
+use cbor4ii_vectors_de::takes;
+use cbor4ii_vectors_de::typed::{Answer, RowShown, comes_back, reads_all_shown};
 use std::test::Fail;
 
-impl Take for Settings {
-    fn take<S: Source>(
-        alloc: Global,
-        de: &mut Deserializer<S>,
-    ) -> Result<Self, DecodeError<S::Error>> {
-        Self::deserialize(alloc, de)
-    }
-}
+takes!(Settings);
 
 const ALL: &[u8] = b"\xa8\x64host\x61a\x64port\x01\x67verbose\xf5\x67workers\x02\x65cache\x03\
 \x65proxy\x61b\x67plugins\x81\x61c\x68greeting\x61d";

@@ -10,10 +10,7 @@ use std::alloc::Global;
 use std::test::Fail;
 
 impl ReadFrom for Station {
-    fn read_from<S: Source>(
-        alloc: Global,
-        reader: &mut S,
-    ) -> Result<Station, DecodeError<S::Error>> {
+    fn read_from<S: Source>(alloc: Global, reader: &mut S) -> Result<Self, DecodeError<S::Error>> {
         Station::decode(alloc, reader)
     }
 }
@@ -23,19 +20,12 @@ impl ReadFrom for Station {
 struct StationList(Vec<Station>);
 
 impl ReadFrom for StationList {
-    fn read_from<S: Source>(
-        alloc: Global,
-        reader: &mut S,
-    ) -> Result<StationList, DecodeError<S::Error>> {
+    fn read_from<S: Source>(alloc: Global, reader: &mut S) -> Result<Self, DecodeError<S::Error>> {
         Ok(StationList(Vec::decode(alloc, reader)?))
     }
 }
 
 const STATION: &str = "Station { id: 5, name: \"abc\" }";
-
-const WRITTEN_STATIONS: &[(&[u8], &str, usize)] = table! {
-    (b"\x82\x05\x63abc", STATION, 4),
-};
 
 const STATIONS: &[Row<&str>] = table! {
     (b"\x9f\x05\x63abc\xff\x00", Ok(STATION), b"\x00"),
@@ -54,7 +44,7 @@ const TWO_STATIONS: &[Row<&str>] = table! {
 #[test]
 fn stations_are_written_and_read(rt: HostRuntime) -> Result<(), Fail> {
     let alloc = rt.alloc();
-    texts_go_both_ways::<Station>(alloc, WRITTEN_STATIONS)?;
+    texts_go_both_ways::<Station>(alloc, &[(b"\x82\x05\x63abc", STATION, 4)])?;
     reads_texts::<Station>(alloc, STATIONS)?;
     reads_texts::<StationList>(alloc, TWO_STATIONS)
 }

@@ -1,13 +1,11 @@
 //! Rows of a struct that holds values of its own kind.
 use crate::tree::Tree;
-use cbor4ii::dec::Source;
-use cbor4ii::serde::{
-    DecodeError, Deserialize, Deserializer, described_values_are_read_back, from_slice, to_vec,
-};
+use cbor4ii::serde::{described_values_are_read_back, from_slice, to_vec};
 use cbor4ii_vectors::compared::same;
 use cbor4ii_vectors::rows::{Want, writes};
 use cbor4ii_vectors::{mismatch, no_step, table, unsupported};
-use cbor4ii_vectors_de::typed::{Answer, RowShown, Take, come_back, is_rejected, reads_all_shown};
+use cbor4ii_vectors_de::takes;
+use cbor4ii_vectors_de::typed::{Answer, RowShown, come_back, is_rejected, reads_all_shown};
 use cbor4ii_vectors_ser::typed::Typed;
 use std::alloc::Global;
 use std::collections::TryReserveError;
@@ -35,14 +33,7 @@ fn nodes_below_a_node_are_written(rt: HostRuntime) -> Result<(), Fail> {
     Ok(())
 }
 
-impl Take for Tree {
-    fn take<S: Source>(
-        alloc: Global,
-        de: &mut Deserializer<S>,
-    ) -> Result<Self, DecodeError<S::Error>> {
-        Self::deserialize(alloc, de)
-    }
-}
+takes!(Tree);
 
 const TREE_SHOWN: &str = "Tree { id: 1, name: \"a\", children: [\
 Tree { id: 2, name: \"b\", children: [] }, Tree { id: 3, name: \"\", children: [] }] }";
@@ -56,8 +47,8 @@ fn a_tree_comes_back(rt: HostRuntime) -> Result<(), Fail> {
 mod described {
     use crate::tree;
     use cbor4ii::dec::Source;
-    use cbor4ii::serde::{DecodeError, Deserializer, Once, Required};
-    use cbor4ii_vectors_de::typed::Take;
+    use cbor4ii::serde::{Deserializer, Once, Required};
+    use cbor4ii_vectors_de::typed::{Got, Take};
     use std::alloc::Global;
 
     #[derive(Debug, Drop)]
@@ -68,10 +59,7 @@ mod described {
     }
 
     impl Take for Tree {
-        fn take<S: Source>(
-            alloc: Global,
-            de: &mut Deserializer<S>,
-        ) -> Result<Self, DecodeError<S::Error>> {
+        fn take<S: Source>(alloc: Global, de: &mut Deserializer<S>) -> Got<Self, S> {
             let names = ["id", "name", "children"];
             let missing = [
                 "a tree has one id",

@@ -1,6 +1,6 @@
 -- What a call that does what a program does answers.
 use Rattle.std.proofs.Common.{inl, inr, ◌≡◌, ℕ, List, drop, take, Option, None, Some, Ok, Err, Bool}
-use Rattle.std.proofs.Common.{true, false, refl, ap, ◌∙◌, IfSome, length, ◌+◌, ◌≤◌, arith}
+use Rattle.std.proofs.Common.{true, false, refl, ap, IfSome, length, ◌+◌, ◌≤◌, arith, rules}
 use Rattle.std.specs.Prelude.{MatchBool}
 use Rattle.cbor4ii_rw.specs.View.{View}
 use Rattle.cbor4ii_rw.specs.declared.error.DecodeError.{DecodeError}
@@ -9,9 +9,9 @@ use Rattle.cbor4ii_items.specs.Head.{IsBytes}
 use Rattle.cbor4ii_items.specs.Moves.{Kept, ReaderFailed, Moves}
 use Rattle.cbor4ii_items.specs.InputError.{InputError, input_error_of, is_read}
 use Rattle.cbor4ii_items.specs.Reading.{Reading, Runs}
-use Rattle.cbor4ii_items.specs.Decoding.{IsExact, Reads, RejectsAt, Sound, NoneRead}
+use Rattle.cbor4ii_items.specs.Decoding.{IsExact, Reads, RejectsAt, Sound, NoneRead, Complete}
+use Rattle.cbor4ii_items.specs.Decoding.{Rejects}
 use Rattle.cbor4ii_items.specs.Budget.{CostFits}
-use Rattle.cbor4ii_items.specs.Decoding.{Complete, Rejects}
 use Rattle.std.proofs.lemmas.List.{length-drop}
 use Rattle.cbor4ii_items.specs.Laws.Heads.{IsBytes-take}
 
@@ -48,28 +48,13 @@ pub sound_at : {V E : Type 0} {program : Reading V} {v : V} {a b : View} (reads 
     → ((xs : List ℕ) (n : ℕ) → program xs ≡ Ok (v, drop n xs) → n ≤ length xs → IsBytes (take n xs)
     → Found reads a.budget xs v (drop n xs))
     → Runs {E = E} program a b (Ok v) → Sound reads a b v
-sound_at {v = v} {b = b} reads means p = record {
-  at = λ xs known.
-      let h = p.answers xs known in
-      let t = p.moves.by.rest xs known in
-      let e : h.0 ≡ drop t.0 xs = same_some _ _ b.known h.1 t.1.left in
-      let f = means xs t.0 (h.2 ∙ ap (λ (zs : List ℕ). Ok (v, zs)) e) t.1.within t.1.bytes in
-      record {
-        count = f.count;
-        cost = f.cost;
-        read = f.read;
-        fits = f.fits;
-        left = t.1.left ∙ ap Some f.left;
-      };
-}
+sound_at {v = v} {b = b} reads means p = search (rules, same_some)
 
 pub sound_by : {V E : Type 0} {program : Reading V} {v : V} {a b : View} (reads : Reads V)
     → ((xs ys : List ℕ) → program xs ≡ Ok (v, ys) → SeenAreBytes xs ys → Found reads a.budget xs v
     ys)
     → Runs {E = E} program a b (Ok v) → Sound reads a b v
-sound_by reads means p =
-    sound_at reads (λ xs n e within bytes.
-    means xs (drop n xs) e (seen_of xs (drop n xs) n within bytes refl)) p
+sound_by reads means p = search (rules, sound_at, seen_of)
 
 -- ---- an error
 
@@ -112,13 +97,7 @@ stopped_by : {V E : Type 0} (program : Reading V) (e : DecodeError E) (a b : Vie
     → IfSome o (λ z. (ys : List ℕ) × (b.known ≡ Some ys) × rejects xs a.budget z ys)
 stopped_by program e a b rejects xs known means moves None says h = tt
 stopped_by program e a b rejects xs known means moves (Some z) says h =
-    let k = kept_of (is_read e) a b (not_read e z says) moves.by in
-    let t = k.rest xs known in
-    let f : h.0 ≡ drop t.0 xs = same_some _ _ b.known h.1 t.1.left in (
-      drop t.0 xs,
-      t.1.left,
-      means z t.0 (h.2 ∙ ap (λ (zs : List ℕ). Err (z, zs)) f) t.1.within t.1.bytes,
-    )
+    search (rules, kept_of, not_read, same_some)
 
 pub rejects_at : {V E : Type 0} {program : Reading V} {e : DecodeError E} {a b : View}
     (rejects : RejectsAt)
@@ -135,9 +114,7 @@ pub rejects_by : {V E : Type 0} {program : Reading V} {e : DecodeError E} {a b :
     (rejects : RejectsAt) → ((xs : List ℕ) (z : InputError) (ys : List ℕ) → program xs ≡ Err (z, ys)
     → SeenAreBytes xs ys → rejects xs a.budget z ys)
     → Runs {V = V} program a b (Err e) → Rejects rejects a b e
-rejects_by rejects means p =
-    rejects_at rejects (λ xs z n e within bytes.
-    means xs z (drop n xs) e (seen_of xs (drop n xs) n within bytes refl)) p
+rejects_by rejects means p = search (rules, rejects_at, seen_of)
 
 -- ---- one type as another
 
@@ -164,10 +141,4 @@ complete_as {e = e} {a = a} f g none p =
 pub exact_kept : (owned : Bool) (a b : View) (xs : List ℕ) → a.known ≡ Some xs → Kept a b
     → IsExact owned a → IsExact owned b
 exact_kept owned a b xs known kept (inl e) = inl e
-exact_kept owned a b xs known kept (inr e) =
-    let t = kept.rest xs known in
-    inr (
-      kept.zero_copy e.0,
-      λ ys left. (let same : drop t.0 xs ≡ ys = let l = t.1.left in cc in
-          omega (arith, ap length same, length-drop t.0 xs, e.1 xs known)),
-    )
+exact_kept owned a b xs known kept (inr e) = search (rules, inr, length-drop)

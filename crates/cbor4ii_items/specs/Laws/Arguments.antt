@@ -1,16 +1,14 @@
 -- What a program reads is read once, and stands in the input.
 use Rattle.std.proofs.Common.{◌≡◌, ℕ, ◌<◌, ◌≤◌, List, [], ◌++◌, length, drop, take, Ok, sym, ap}
-use Rattle.std.proofs.Common.{◌∙◌, arith}
+use Rattle.std.proofs.Common.{◌∙◌, arith, rules}
 use Rattle.std.proofs.lemmas.List.{length-drop}
-use Rattle.cbor4ii_items.specs.Decoding.{IsLawful}
-use Rattle.cbor4ii_items.specs.Numbers.{argument_format, negative_format}
+use Rattle.cbor4ii_items.specs.Decoding.{IsLawful, Reads}
+use Rattle.cbor4ii_items.specs.Numbers.{argument_format, negative_format, ReadsArgument}
 use Rattle.cbor4ii_items.specs.Laws.Formats.{lawful_by}
 use Rattle.cbor4ii_items.specs.Reading.{Reading}
 use Rattle.cbor4ii_items.specs.Laws.Outcome.{same_value}
 use Rattle.cbor4ii_items.specs.Laws.Heads.{head_read, head_alone}
 use Rattle.cbor4ii_items.specs.ReadHead.{head_at}
-use Rattle.cbor4ii_items.specs.Numbers.{ReadsArgument}
-use Rattle.cbor4ii_items.specs.Decoding.{Reads}
 
 -- the program reads all that the relation says, at least one byte, and at no cost
 pub record ReadBy {V : Type 0} (program : Reading V) (xs : List ℕ) (v : V) (n c : ℕ) : Type 0 where
@@ -42,9 +40,7 @@ module _ {V : Type 0} (program : Reading V) (reads : Reads V)
 
 pub argument_again : (name : List ℕ) (major width : ℕ) → major < 8 → (xs : List ℕ) (v n c : ℕ)
     → ReadsArgument major width xs v n c → ReadBy (head_at name major width) xs v n c
-argument_again name major width m xs v n c p =
-    let h = head_read name major width xs v n m p.0 in
-    record { answer = h.0; within = h.1; positive = h.2; cost = p.1 }
+argument_again name major width m xs v n c p = search (rules, head_read)
 
 pub argument_alone : (major width : ℕ) (xs ys : List ℕ) (v n c : ℕ)
     → ReadsArgument major width xs v n c → ReadsArgument major width (take n xs ++ ys) v n c
@@ -58,31 +54,20 @@ argument_one major width m =
 
 pub argument_within : (major width : ℕ) → major < 8 → (xs : List ℕ) (v n c : ℕ)
     → ReadsArgument major width xs v n c → n ≤ length xs
-argument_within major width m =
-    leaf_within (head_at [] major width) (ReadsArgument major width)
-    (argument_again [] major width m)
+argument_within major width m = search (rules, leaf_within, argument_again)
 
 pub argument_positive : (major width : ℕ) → major < 8 → (xs : List ℕ) (v n c : ℕ)
     → ReadsArgument major width xs v n c → 1 ≤ n
-argument_positive major width m =
-    leaf_positive (head_at [] major width) (ReadsArgument major width)
-    (argument_again [] major width m)
+argument_positive major width m = search (rules, leaf_positive, argument_again)
 
 pub zero_small : 0 < 8
 zero_small = omega arith
 
 pub argument_lawful : (name : List ℕ) (major width : ℕ) → major < 8
     → IsLawful (argument_format name major width)
-argument_lawful name major width m = record {
-  one = argument_one major width m;
-  within = argument_within major width m;
-  positive = λ some. argument_positive major width m;
-  alone = λ closed. argument_alone major width;
-}
+argument_lawful name major width m = search rules
 
 -- ---- negative integers
 
 pub negative_lawful : (name : List ℕ) (width : ℕ) → IsLawful (negative_format name width)
-negative_lawful name width =
-    lawful_by (λ v. v.0) (argument_format name 1 width)
-    (argument_lawful name 1 width (omega arith))
+negative_lawful name width = search (rules, lawful_by, argument_lawful)

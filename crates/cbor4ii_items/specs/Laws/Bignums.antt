@@ -1,13 +1,13 @@
 -- Integers of sixteen bytes are read exactly as they are encoded.
 use Rattle.std.proofs.Common.{◌≡◌, ℕ, zero, suc, ◌+◌, ◌*◌, ◌/◌, ◌^◌, ◌<◌, ◌≤◌, inl, inr, List, []}
 use Rattle.std.proofs.Common.{◌∷◌, ◌++◌, length, drop, take, Ok, false, refl, sym, ap, ◌∙◌, subst}
-use Rattle.std.proofs.Common.{arith, ltb, le-ltb}
+use Rattle.std.proofs.Common.{arith, ltb, le-ltb, rules}
 use Rattle.std.specs.Prelude.{ℤ, pos, negsuc, codes, fold}
 use Rattle.std.proofs.lemmas.List.{length-drop, length-append, length-take-le}
 use Rattle.cbor4ii_items.specs.Head.{IsBytes}
-use Rattle.cbor4ii_items.specs.Reading.{go_on, ◌>=>◌}
+use Rattle.cbor4ii_items.specs.Reading.{give, go_on, ◌>=>◌}
 use Rattle.cbor4ii_items.specs.ReadHead.{head_at, number_on}
-use Rattle.cbor4ii_items.specs.ReadNumber.{below, as_positive, as_negative, magnitude_by}
+use Rattle.cbor4ii_items.specs.ReadNumber.{as_positive, as_negative, magnitude_by}
 use Rattle.cbor4ii_items.specs.ReadNumber.{magnitude_at, unsigned_bignum_at, u128_by, u128_at}
 use Rattle.cbor4ii_items.specs.ReadNumber.{small_magnitude_at, signed_bignum_at, i128_by, i128_at}
 use Rattle.cbor4ii_items.specs.Magnitude.{number_of}
@@ -17,7 +17,7 @@ use Rattle.cbor4ii_items.specs.Laws.Prefixes.{drop_more, the_prefix}
 use Rattle.cbor4ii_items.specs.Laws.Heads.{head_read, head_alone}
 use Rattle.cbor4ii_items.specs.Laws.Arguments.{ReadBy, leaf_one, leaf_within, leaf_positive}
 use Rattle.cbor4ii_items.specs.Laws.Strings.{length_known}
-use Rattle.cbor4ii_items.specs.Laws.Signed.{starts, peek_first, below_again}
+use Rattle.cbor4ii_items.specs.Laws.Signed.{starts, first_says, says_head, below_again}
 
 -- ---- byte strings as numbers
 
@@ -122,24 +122,15 @@ u128_bignum b e = let t : b / 32 ≡ 6 = e in rw t refl
 
 pub u128_again : (xs : List ℕ) (v n c : ℕ) → ReadsU128 xs v n c → ReadBy u128_at xs v n c
 u128_again xs v n c (inl h, cost) =
-    let s = starts 0 8 xs v n h in
-    let r = head_read (codes "u64") 0 8 xs v n (omega arith) h in
-    record {
-      answer =
-          ap (λ z. go_on z u128_by) (peek_first (codes "u128") s.first s.others xs s.is)
-          ∙ (ap (λ f. f xs) (u128_unsigned s.first s.type) ∙ r.0);
-      within = r.1;
-      positive = r.2;
-      cost = cost;
-    }
+    search (rules, starts, says_head, first_says, u128_unsigned, head_read)
 u128_again xs v n c (inr p, cost) =
     let s = starts 6 1 xs 2 p.before p.tagged in
     let r = bignum_read 2 xs v n p in
     record {
       answer =
-          ap (λ z. go_on z u128_by) (peek_first (codes "u128") s.first s.others xs s.is)
-          ∙ (ap (λ f. f xs) (u128_bignum s.first s.type) ∙ (ap (λ z. go_on z unsigned_bignum_at)
-          (r.tagged (codes "u128")) ∙ r.inner (codes "u128::bytes")));
+          first_says (codes "u128") u128_by _ s.first s.others xs s.is
+          (u128_bignum s.first s.type) ∙ (ap (λ z. go_on z unsigned_bignum_at)
+          (r.tagged (codes "u128")) ∙ r.inner (codes "u128::bytes"));
       within = r.within;
       positive = r.positive;
       cost = cost;
@@ -175,63 +166,36 @@ i128_bignum b e = let t : b / 32 ≡ 6 = e in rw t refl
 
 small_again : (name : List ℕ) (xs : List ℕ) (v : ℕ) (ys : List ℕ)
     → magnitude_at name xs ≡ Ok (v, ys) → v < 2 ^ 127 → small_magnitude_at name xs ≡ Ok (v, ys)
-small_again name xs v ys e small =
-    ap (λ z. go_on z (below (codes "i128") (2 ^ 127))) e
-    ∙ below_again (codes "i128") (2 ^ 127) v ys small
+small_again name xs v ys e small = search (rules, below_again)
+
+-- of a bignum below the limit, with its sign
+signed_bignum : (tag : ℕ) (name : List ℕ) (sign : ℕ → ℤ) (xs : List ℕ) (k n c : ℕ)
+    → ((ys : List ℕ) → signed_bignum_at tag ys
+    ≡ go_on (small_magnitude_at name ys) (λ j. give (sign j)))
+    → ReadsBignum tag xs k n → k < 2 ^ 127 → c ≡ 0 → ReadBy i128_at xs (sign k) n c
+signed_bignum tag name sign xs k n c is p small cost =
+    let s = starts 6 1 xs tag p.before p.tagged in
+    let r = bignum_read tag xs k n p in
+    record {
+      answer =
+          first_says (codes "i128") i128_by _ s.first s.others xs s.is (i128_bignum s.first s.type)
+          ∙ (ap (λ z. go_on z signed_bignum_at) (r.tagged (codes "i128"))
+          ∙ (is (drop r.before xs) ∙ ap (λ z. go_on z (λ j. give (sign j)))
+          (small_again name (drop r.before xs) k (drop n xs) (r.inner name) small)));
+      within = r.within;
+      positive = r.positive;
+      cost = cost;
+    }
 
 pub i128_again : (xs : List ℕ) (v : ℤ) (n c : ℕ) → ReadsI128 xs v n c → ReadBy i128_at xs v n c
 i128_again xs (pos k) n c (inl h, cost) =
-    let s = starts 0 8 xs k n h in
-    let r = head_read (codes "u64") 0 8 xs k n (omega arith) h in
-    record {
-      answer =
-          ap (λ z. go_on z i128_by) (peek_first (codes "i128") s.first s.others xs s.is)
-          ∙ (ap (λ f. f xs) (i128_positive_by s.first s.type)
-          ∙ ap (λ z. go_on z as_positive) r.0);
-      within = r.1;
-      positive = r.2;
-      cost = cost;
-    }
+    search (rules, starts, says_head, first_says, i128_positive_by, head_read)
 i128_again xs (pos k) n c (inr p, cost) =
-    let s = starts 6 1 xs 2 p.0.before p.0.tagged in
-    let r = bignum_read 2 xs k n p.0 in
-    record {
-      answer =
-          ap (λ z. go_on z i128_by) (peek_first (codes "i128") s.first s.others xs s.is)
-          ∙ (ap (λ f. f xs) (i128_bignum s.first s.type)
-          ∙ (ap (λ z. go_on z signed_bignum_at) (r.tagged (codes "i128"))
-          ∙ ap (λ z. go_on z as_positive) (small_again (codes "+i128::bytes")
-          (drop r.before xs) k (drop n xs) (r.inner (codes "+i128::bytes")) p.1)));
-      within = r.within;
-      positive = r.positive;
-      cost = cost;
-    }
+    signed_bignum 2 (codes "+i128::bytes") pos xs k n c (λ ys. refl) p.0 p.1 cost
 i128_again xs (negsuc k) n c (inl h, cost) =
-    let s = starts 1 8 xs k n h in
-    let r = head_read (codes "i128") 1 8 xs k n (omega arith) h in
-    record {
-      answer =
-          ap (λ z. go_on z i128_by) (peek_first (codes "i128") s.first s.others xs s.is)
-          ∙ (ap (λ f. f xs) (i128_negative_by s.first s.type)
-          ∙ ap (λ z. go_on z as_negative) r.0);
-      within = r.1;
-      positive = r.2;
-      cost = cost;
-    }
+    search (rules, starts, says_head, first_says, i128_negative_by, head_read)
 i128_again xs (negsuc k) n c (inr p, cost) =
-    let s = starts 6 1 xs 3 p.0.before p.0.tagged in
-    let r = bignum_read 3 xs k n p.0 in
-    record {
-      answer =
-          ap (λ z. go_on z i128_by) (peek_first (codes "i128") s.first s.others xs s.is)
-          ∙ (ap (λ f. f xs) (i128_bignum s.first s.type)
-          ∙ (ap (λ z. go_on z signed_bignum_at) (r.tagged (codes "i128"))
-          ∙ ap (λ z. go_on z as_negative) (small_again (codes "-i128::bytes")
-          (drop r.before xs) k (drop n xs) (r.inner (codes "-i128::bytes")) p.1)));
-      within = r.within;
-      positive = r.positive;
-      cost = cost;
-    }
+    signed_bignum 3 (codes "-i128::bytes") negsuc xs k n c (λ ys. refl) p.0 p.1 cost
 
 pub i128_one : (xs : List ℕ) (v w : ℤ) (n m c d : ℕ) → ReadsI128 xs v n c → ReadsI128 xs w m d
     → (n ≡ m) × (c ≡ d) × (v ≡ w)

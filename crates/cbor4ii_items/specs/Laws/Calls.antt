@@ -1,13 +1,13 @@
 -- What a call that decodes one type answers for another one.
-use Rattle.std.proofs.Common.{◌≡◌, ℕ, ◌+◌, ◌≤◌, inl, inr, List, drop, Option, Some, None}
-use Rattle.std.proofs.Common.{Result, Ok, Err, IsTrue, false, refl, sym, ap, ◌∙◌, subst, arith}
-use Rattle.std.proofs.Common.{Bool, true, IfSome, IfErr}
+use Rattle.std.proofs.Common.{◌≡◌, ℕ, ◌+◌, ◌≤◌, inl, inr, List, drop, Option, Some, None, Result}
+use Rattle.std.proofs.Common.{Ok, Err, IsTrue, false, refl, sym, ap, ◌∙◌, subst, arith, Bool, true}
+use Rattle.std.proofs.Common.{IfSome, IfErr, rules}
 use Rattle.cbor4ii_rw.specs.View.{View, IfKnown}
 use Rattle.cbor4ii_rw.specs.declared.error.DecodeError.{DecodeError}
 use Rattle.cbor4ii_rw.specs.declared.error.DecodeError.TheVariants.{OutOfMemory}
-use Rattle.cbor4ii_items.specs.Decoding.{IsExact, NoneRead, Sound, Format, Decodes}
+use Rattle.cbor4ii_items.specs.Decoding.{IsExact, NoneRead, Sound, Format, Decodes, DecodesIf}
+use Rattle.cbor4ii_items.specs.Decoding.{format_by, taking_memory}
 use Rattle.cbor4ii_items.specs.Budget.{CostFits}
-use Rattle.cbor4ii_items.specs.Decoding.{DecodesIf, format_by, taking_memory}
 use Rattle.cbor4ii_items.specs.Moves.{Kept, Moves}
 use Rattle.cbor4ii_items.specs.Reading.{Reading, Runs}
 use Rattle.cbor4ii_items.specs.InputError.{InputError, input_error_of, is_out_of_memory}
@@ -57,67 +57,27 @@ none_of (Some z) left means h = means z h.0 h.2
 -- an exact type promises more
 pub of_exact : {V E : Type 0} {exact : Bool} {s : Format V} {a b : View}
     {r : Result V (DecodeError E)} → Decodes s a b r → DecodesIf exact s a b r
-of_exact d = record {
-  moves = d.moves;
-  progress = d.progress;
-  memory = d.memory;
-  sound = d.sound;
-  complete = λ is. d.complete;
-  rejects = λ is. d.rejects;
-  begins = d.begins;
-}
+of_exact d = search rules
 
 pub decodes_exactly : {V E : Type 0} {s : Format V} {a b : View} {r : Result V (DecodeError E)}
     → DecodesIf true s a b r → Decodes s a b r
-decodes_exactly d = record {
-  moves = d.moves;
-  progress = d.progress;
-  memory = d.memory;
-  sound = d.sound;
-  complete = d.complete refl;
-  rejects = d.rejects refl;
-  begins = d.begins;
-}
+decodes_exactly d = search rules
 
 -- and what is exact under one condition is so under a narrower one
 pub exact_less : {V E : Type 0} {x y : Bool} {s : Format V} {a b : View}
     {r : Result V (DecodeError E)} → (IsTrue y → IsTrue x) → DecodesIf x s a b r
     → DecodesIf y s a b r
-exact_less less d = record {
-  moves = d.moves;
-  progress = d.progress;
-  memory = d.memory;
-  sound = d.sound;
-  complete = λ is. d.complete (less is);
-  rejects = λ is. d.rejects (less is);
-  begins = d.begins;
-}
+exact_less less d = search rules
 
 -- of what is accepted, every type says the same
 pub exactly_ok : {V E : Type 0} {exact : Bool} {s : Format V} {a b : View} {v : V}
     → DecodesIf {E = E} exact s a b (Ok v) → Decodes {E = E} s a b (Ok v)
-exactly_ok d = record {
-  moves = d.moves;
-  progress = d.progress;
-  memory = d.memory;
-  sound = d.sound;
-  complete = λ sure. tt;
-  rejects = λ sure. tt;
-  begins = tt;
-}
+exactly_ok d = search rules
 
 module _ {V E : Type 0} (s : Format V) {a b : View} where
   pub ok : {v : V} → Kept a b → (IsTrue s.never_empty → b.bound + 1 ≤ a.bound) → Sound s.reads a b v
       → Decodes {E = E} s a b (Ok v)
-  ok kept progress sound = record {
-    moves = record { by = kept; depth = λ none. refl };
-    progress = progress;
-    memory = tt;
-    sound = sound;
-    complete = λ sure. tt;
-    rejects = λ sure. tt;
-    begins = tt;
-  }
+  ok kept progress sound = search rules
 
   -- an error of which all is known over any reader
   pub err_if : {exact : Bool} {e : DecodeError E} → Moves {V = V} a b (Err e)
@@ -296,12 +256,4 @@ module _ {U V E : Type 0} (part : V → U) (s : Format U) {a b : View} where
 pub in_memory : {V E : Type 0} (s : Format V) {a b : View} (r : Result V (DecodeError E))
     → Decodes s a b r → Decodes (taking_memory s) a b r
 in_memory s (Ok v) d = ok (taking_memory s) d.moves.by d.progress d.sound
-in_memory s (Err e) d = record {
-  moves = d.moves;
-  progress = d.progress;
-  memory = λ out. refl;
-  sound = tt;
-  complete = d.complete;
-  rejects = d.rejects;
-  begins = d.begins;
-}
+in_memory s (Err e) d = search rules

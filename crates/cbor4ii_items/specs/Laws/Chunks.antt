@@ -1,6 +1,6 @@
 -- Chunks up to a break, one by one.
 use Rattle.std.proofs.Common.{◌≡◌, ℕ, zero, suc, ◌<◌, List, length, Option, Result, Ok, Err, Bool}
-use Rattle.std.proofs.Common.{true, false, refl, ap, arith, if◌then◌else◌}
+use Rattle.std.proofs.Common.{true, false, refl, arith, if◌then◌else◌, rules}
 use Rattle.cbor4ii_items.specs.InputError.{InputError}
 use Rattle.cbor4ii_items.specs.Reading.{Reading, give, go_on, ◌>=>◌}
 use Rattle.cbor4ii_items.specs.ReadStrings.{break_at, chunk_at, chunks_on, chunks_at}
@@ -25,9 +25,7 @@ by_ended : (name : List ℕ) (major : ℕ) (budget : Option ℕ) (content xs : L
     content p ended ys ≡ chunks_by name major budget content q ended ys
 by_ended name major budget content xs p q h true ys e = refl
 by_ended name major budget content xs p q h false ys e =
-    let same : ys ≡ xs = (break_no xs ys e).2 in
-    same_after p q (chunk_at name major budget content ys) (λ more zs f. h more zs (omega
-    (arith, (chunk_passed name major budget content ys more zs f).1, ap length same)))
+    search (rules, break_no, same_after, chunk_passed)
 
 fuel : (f g : ℕ) (name : List ℕ) (major : ℕ) (budget : Option ℕ) (content xs : List ℕ)
     → length xs < f → length xs < g

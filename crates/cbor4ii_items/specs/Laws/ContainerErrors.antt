@@ -1,9 +1,8 @@
 -- What an optional, a tagged or a boxed item is rejected with has one error, where its item has.
-use Rattle.std.proofs.Common.{inl, inr, [], ◌∷◌, drop, refl, sym, ap, ◌∙◌, subst, arith}
+use Rattle.std.proofs.Common.{inl, inr, [], ◌∷◌, refl, sym, ◌∙◌, arith, rules}
 use Rattle.std.specs.Prelude.{codes}
 use Rattle.cbor4ii_items.specs.Containers.{RejectsOption, RejectsTag}
 use Rattle.cbor4ii_items.specs.Decoding.{RejectsAt, Format, taking_memory}
-use Rattle.cbor4ii_items.specs.InputError.{require_length, len_of}
 use Rattle.cbor4ii_items.specs.Maybe.{RejectsFew, few_head_rejected, few_indefinite, few_other}
 use Rattle.cbor4ii_items.specs.Maybe.{RejectsMaybe, maybe_head_rejected, maybe_item_rejected}
 use Rattle.cbor4ii_items.specs.OneError.{OneError, RejectsOnce}
@@ -34,10 +33,7 @@ few_error xs budget e f x y (few_other k n h p q i j) (few_head_rejected t) =
 few_error xs budget e f x y (few_other k n r p q g h) (few_indefinite b i j) =
     absurd (head_not_indefinite 4 xs k n (omega arith) r b)
 few_error xs budget e f x y (few_other k n r p q g h) (few_other l m t c d i j) =
-    let same = head_one 4 8 xs k l n m (omega arith) r t in (
-      g ∙ (ap (λ z. require_length (codes "maybe") (len_of z)) same.1 ∙ sym i),
-      h ∙ (ap (λ z. drop z xs) same.0 ∙ sym j),
-    )
+    search (rules, head_one)
 
 module _ (rejects : RejectsAt) (once : OneError rejects) where
   pub option_error : OneError (RejectsOption rejects)
@@ -50,10 +46,7 @@ module _ (rejects : RejectsAt) (once : OneError rejects) where
       absurd (head_apart (codes "tag") 6 8 xs e x t.number t.before s t.head)
   tag_error xs budget e f x y (inr s) (inl t) =
       absurd (head_apart (codes "tag") 6 8 xs f y s.number s.before t s.head)
-  tag_error xs budget e f x y (inr s) (inr t) =
-      let same = head_one 6 8 xs s.number t.number s.before t.before (omega arith) s.head t.head in
-      once (drop t.before xs) budget e f x y
-      (subst (λ k. rejects (drop k xs) budget e x) same.0 s.item) t.item
+  tag_error xs budget e f x y (inr s) (inr t) = search (rules, head_one)
 
   pub maybe_error : OneError (RejectsMaybe rejects)
   maybe_error xs budget e f x y (maybe_head_rejected s) (maybe_head_rejected t) =
@@ -63,21 +56,14 @@ module _ (rejects : RejectsAt) (once : OneError rejects) where
   maybe_error xs budget e f x y (maybe_item_rejected n h s) (maybe_head_rejected t) =
       absurd (few_apart xs budget f y 1 n t (inr refl) h)
   maybe_error xs budget e f x y (maybe_item_rejected n g s) (maybe_item_rejected m h t) =
-      let same = head_one 4 8 xs 1 1 n m (omega arith) g h in
-      once (drop m xs) budget e f x y (subst (λ k. rejects (drop k xs) budget e x) same.0 s) t
+      search (rules, head_one)
 
 module _ {V : Type 0} (s : Format V) (h : RejectsOnce s) where
   pub option_once : RejectsOnce (option_format s)
-  option_once = record {
-    apart = option_apart s.reads s.rejects h.apart;
-    one_error = option_error s.rejects h.one_error;
-  }
+  option_once = search (rules, option_apart, option_error)
 
   pub tag_once : RejectsOnce (tag_format s)
-  tag_once = record {
-    apart = tag_apart s.reads s.rejects h.apart;
-    one_error = tag_error s.rejects h.one_error;
-  }
+  tag_once = search (rules, tag_apart, tag_error)
 
   pub maybe_once : RejectsOnce (maybe_format s)
   maybe_once = record {

@@ -1,19 +1,18 @@
 -- An optional item and a tagged item are read as their item is.
 use Rattle.std.proofs.Common.{◌≡◌, ℕ, zero, suc, ◌≤◌, inl, inr, List, [], ◌∷◌, ◌++◌, length, drop}
-use Rattle.std.proofs.Common.{take, Option, Some, None, Bool, true, false, IsTrue, refl, sym}
-use Rattle.std.proofs.Common.{◌∙◌, subst, arith, ◌≢◌}
-use Rattle.std.specs.Prelude.{◌&&◌}
+use Rattle.std.proofs.Common.{take, Option, Some, None, Bool, true, IsTrue, refl, sym, ◌∙◌, subst}
+use Rattle.std.proofs.Common.{arith, ◌≢◌, rules}
+use Rattle.std.specs.Prelude.{◌&&◌, Box}
 use Rattle.std.proofs.lemmas.List.{length-drop}
 use Rattle.cbor4ii_items.specs.Containers.{BeginsNull, ReadsOption, SameOption, RejectsOption}
 use Rattle.cbor4ii_items.specs.Containers.{ReadsTag, RejectsTag}
 use Rattle.cbor4ii_items.specs.declared.types.Tag.{Tag}
 use Rattle.cbor4ii_items.specs.Laws.Lawful.{IsOneReading, StaysWithin, TakesSome, head_kept}
-use Rattle.cbor4ii_items.specs.Decoding.{Format, IsLawful, format_by, taking_memory}
+use Rattle.cbor4ii_items.specs.Decoding.{Format, IsLawful, format_by, taking_memory, Reads}
+use Rattle.cbor4ii_items.specs.Decoding.{NoneRead}
 use Rattle.cbor4ii_items.specs.Laws.Formats.{lawful_by, lawful_in_memory}
 use Rattle.std.specs.declared.alloc.Global.{Global}
-use Rattle.std.specs.Prelude.{Box}
 use Rattle.cbor4ii_items.specs.Laws.Heads.{head_one, head_read}
-use Rattle.cbor4ii_items.specs.Decoding.{Reads, NoneRead}
 use Rattle.cbor4ii_items.specs.Budget.{CostFits}
 
 -- ---- an item or none
@@ -80,20 +79,9 @@ pub option_alone : {V : Type 0} (reads : Reads V) (closed never_empty : Bool)
     → reads (take n xs ++ ys) v n c)
     → IsTrue (closed && never_empty) → (xs ys : List ℕ) (v : Option V) (n c : ℕ)
     → ReadsOption reads xs v n c → ReadsOption reads (take n xs ++ ys) v n c
-option_alone reads closed never_empty within positive alone e xs ys None n c p = (
-  null_kept (take n xs ++ ys) xs (first_kept n xs ys (omega (arith, p.1))
-      (omega (arith, p.1, null_long xs p.0))) p.0,
-  p.1,
-  p.2,
-)
+option_alone reads closed never_empty within positive alone e xs ys None n c p = search rules
 option_alone reads closed never_empty within positive alone e xs ys (Some v) n c p =
-    let flags = both closed never_empty e in
-    let some = positive flags.1 xs v n c p.2 in
-    let room = within xs v n c p.2 in (
-      λ null. p.0 (null_kept xs (take n xs ++ ys) (sym (first_kept n xs ys some room)) null),
-      some_byte n xs ys some room,
-      alone flags.0 xs ys v n c p.2,
-    )
+    search (rules, null_kept, first_kept, some_byte)
 
 -- ---- a tagged item
 
@@ -109,14 +97,7 @@ module _ {V : Type 0} (reads : Reads V) where
 
   pub tag_within : StaysWithin reads → (xs : List ℕ) (i : ℕ) (v : V) (n c : ℕ)
       → ReadsTag reads xs i v n c → n ≤ length xs
-  tag_within within xs i v n c p =
-      omega (
-        arith,
-        p.bytes,
-        (head_read [] 6 8 xs i p.before (omega arith) p.head).1,
-        within (drop p.before xs) v p.count c p.item,
-        length-drop p.before xs,
-      )
+  tag_within within xs i v n c p = search (rules, head_read, length-drop)
 
   pub tag_positive : (xs : List ℕ) (i : ℕ) (v : V) (n c : ℕ) → ReadsTag reads xs i v n c → 1 ≤ n
   tag_positive xs i v n c p =

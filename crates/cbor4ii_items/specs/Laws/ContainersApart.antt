@@ -1,14 +1,14 @@
 -- What an optional or a tagged item rejects is not read, where its item's errors are not.
-use Rattle.std.proofs.Common.{◌≡◌, ℕ, ◌⊎◌, inl, inr, List, [], ◌∷◌, drop, Option, Some, None, refl}
-use Rattle.std.proofs.Common.{◌∙◌, subst, arith}
+use Rattle.std.proofs.Common.{◌≡◌, ℕ, ◌⊎◌, inl, inr, List, [], ◌∷◌, Option, Some, None, refl}
+use Rattle.std.proofs.Common.{arith, rules}
 use Rattle.cbor4ii_items.specs.declared.types.Tag.{Tag}
 use Rattle.cbor4ii_items.specs.Containers.{ReadsOption, RejectsOption, ReadsTag, RejectsTag}
 use Rattle.cbor4ii_items.specs.Decoding.{Reads, RejectsAt}
 use Rattle.cbor4ii_items.specs.Budget.{CostFits}
 use Rattle.cbor4ii_items.specs.Heads.{ReadsHead}
 use Rattle.cbor4ii_items.specs.Maybe.{ReadsMaybe, RejectsFew, few_head_rejected, few_indefinite}
-use Rattle.cbor4ii_items.specs.Maybe.{few_other}
-use Rattle.cbor4ii_items.specs.Maybe.{RejectsMaybe, maybe_head_rejected, maybe_item_rejected}
+use Rattle.cbor4ii_items.specs.Maybe.{few_other, RejectsMaybe, maybe_head_rejected}
+use Rattle.cbor4ii_items.specs.Maybe.{maybe_item_rejected}
 use Rattle.cbor4ii_items.specs.NeverBoth.{NeverBoth}
 use Rattle.cbor4ii_items.specs.InputError.{InputError}
 use Rattle.cbor4ii_items.specs.Laws.Heads.{head_one}
@@ -24,8 +24,7 @@ few_apart xs budget err rest count n (few_head_rejected s) few h =
 few_apart xs budget err rest count n (few_indefinite s e f) few h =
     head_not_indefinite 4 xs count n (omega arith) h s
 few_apart xs budget err rest count n (few_other other before g p q e f) few h =
-    let same = head_one 4 8 xs other count before n (omega arith) g h in
-    elim few [ inl zero ↦ p (same.1 ∙ zero) | inr one ↦ q (same.1 ∙ one) ]
+    search (rules, head_one, inl, inr)
 
 module _ {V : Type 0} (reads : Reads V) (rejects : RejectsAt)
     (apart : NeverBoth reads rejects) where
@@ -41,10 +40,7 @@ module _ {V : Type 0} (reads : Reads V) (rejects : RejectsAt)
       → ReadsTag reads xs t.0 t.1 n c → CostFits c budget → ⊥
   tag_apart xs budget err rest (inl s) t n c p fits =
       head_apart _ 6 8 xs err rest t.0 p.before s p.head
-  tag_apart xs budget err rest (inr s) t n c p fits =
-      let same = head_one 6 8 xs t.0 s.number p.before s.before (omega arith) p.head s.head in
-      apart (drop s.before xs) budget err rest s.item t.1 p.count c
-      (subst (λ i. reads (drop i xs) t.1 p.count c) same.0 p.item) fits
+  tag_apart xs budget err rest (inr s) t n c p fits = search (rules, head_one)
 
   pub maybe_apart : NeverBoth (ReadsMaybe reads) (RejectsMaybe rejects)
   maybe_apart xs budget err rest (maybe_head_rejected s) None n c p fits =
@@ -54,6 +50,4 @@ module _ {V : Type 0} (reads : Reads V) (rejects : RejectsAt)
   maybe_apart xs budget err rest (maybe_item_rejected before h s) None n c p fits =
       two_counts xs n before p.0 h
   maybe_apart xs budget err rest (maybe_item_rejected before h s) (Some v) n c p fits =
-      let same = head_one 4 8 xs 1 1 p.before before (omega arith) p.head h in
-      apart (drop before xs) budget err rest s v p.count c
-      (subst (λ i. reads (drop i xs) v p.count c) same.0 p.item) fits
+      search (rules, head_one)

@@ -1,11 +1,11 @@
 -- Content of definite length, prefix by prefix.
 use Rattle.std.proofs.Common.{◌≡◌, ℕ, zero, suc, ◌+◌, ◌-◌, ◌<◌, ◌≤◌, List, [], ◌∷◌, ◌++◌, length}
-use Rattle.std.proofs.Common.{get_or, take, drop, Option, Some, Ok, Err, Bool, true, false, refl}
+use Rattle.std.proofs.Common.{get_or, take, drop, Option, Some, Ok, Bool, true, false, refl}
 use Rattle.std.proofs.Common.{sym, ap, ap₂, ◌∙◌, subst, arith, ltb, ltb-true, ltb-false}
-use Rattle.std.proofs.Common.{append_assoc}
+use Rattle.std.proofs.Common.{append_assoc, rules}
 use Rattle.std.proofs.lemmas.List.{length-drop, length-take-le, append-nil}
 use Rattle.std.proofs.Math.Seq.{take-add}
-use Rattle.cbor4ii_rw.specs.View.{View}
+use Rattle.cbor4ii_rw.specs.View.{View, IfKnown, place_of}
 use Rattle.cbor4ii_items.specs.Lent.{Lends, IsOfInput, Stays}
 use denote.Ref.{Bor}
 use Rattle.std.specs.Prelude.{MatchOption}
@@ -13,10 +13,8 @@ use Rattle.cbor4ii_rw.specs.Reference.{bytes_of, IsSubslice}
 use Rattle.cbor4ii_rw.specs.declared.read.Reference.{Reference}
 use Rattle.cbor4ii_rw.specs.declared.read.Reference.TheVariants.{Long}
 use Rattle.cbor4ii_rw.specs.Reader.{Shows, ReaderFails, Advances, IsPrefix, counts}
-use Rattle.cbor4ii_rw.specs.View.{IfKnown, place_of}
 use Rattle.cbor4ii_items.specs.Head.{IsBytes}
 use Rattle.cbor4ii_items.specs.Moves.{Kept, Took}
-use Rattle.cbor4ii_items.specs.InputError.{eof, len_of}
 use Rattle.cbor4ii_items.specs.Reading.{Reading, Reaches, Runs}
 use Rattle.cbor4ii_items.specs.Contents.{TakesOnto}
 use Rattle.cbor4ii_items.specs.ReadStrings.{content_on}
@@ -42,21 +40,9 @@ more_by : (t : Bool) (name : List ℕ) (count i : ℕ) (before xs : List ℕ) �
     → ltb (length xs) count ≡ t
     → content_on name count before xs ≡ content_on name (count - i) (before ++ take i xs)
     (drop i xs)
-more_by true name count i before xs h k e =
-    let short : length xs < count = ltb-true (length xs) count e in
-    let gap : (count - i) - length (drop i xs) ≡ count - length xs =
-    omega (arith, h, k, short, length-drop i xs) in
-    content_short name count before xs short ∙ (ap (λ (j : ℕ). Err (eof name (len_of j), []))
-    (sym gap) ∙ sym (content_short name (count - i) (before ++ take i xs) (drop i xs)
-    (omega (arith, h, k, short, length-drop i xs))))
+more_by true name count i before xs h k e = search (rules, ltb-true, length-drop, content_short)
 more_by false name count i before xs h k e =
-    let long : count ≤ length xs = ltb-false (length xs) count e in
-    let whole : i + (count - i) ≡ count = omega (arith, h) in
-    content_whole name count before xs long
-    ∙ (ap₂ (λ (us vs : List ℕ). Ok (us, vs)) (sym (two_parts i count before xs h))
-    (sym (drop_more (count - i) i xs ∙ ap (λ j. drop j xs) whole))
-    ∙ sym (content_whole name (count - i) (before ++ take i xs) (drop i xs)
-    (omega (arith, long, h, length-drop i xs))))
+    search (rules, ltb-false, content_whole, two_parts, drop_more, length-drop)
 
 -- a prefix of the content was taken
 pub content_more : (name : List ℕ) (count i : ℕ) (before xs : List ℕ) → i ≤ count → i ≤ length xs
@@ -67,9 +53,7 @@ content_more name count i before xs h k =
 
 pub content_none : (name : List ℕ) (before xs : List ℕ)
     → content_on name 0 before xs ≡ Ok (before, xs)
-content_none name before xs =
-    content_whole name 0 before xs (omega arith)
-    ∙ ap (λ (us : List ℕ). Ok (us, xs)) (append-nil before)
+content_none name before xs = search (rules, content_whole, append-nil)
 
 pub reaches_content : {f : Reading (List ℕ)} (name : List ℕ) {missing n : ℕ} {before after : List ℕ}
     {a m b : View} → Reaches f (content_on name missing before) a m
@@ -90,15 +74,7 @@ reaches_content name {missing = missing} {n = n} {before = before} {after = afte
 pub content_ends : {E : Type 0} {f : Reading (List ℕ)} (name : List ℕ) {missing : ℕ}
     {content : List ℕ} {a b : View} → missing ≡ 0 → Reaches f (content_on name missing content) a b
     → Runs {E = E} f a b (Ok content)
-content_ends name {missing = missing} {content = content} none p = record {
-  moves = record { by = p.kept; depth = λ e. refl };
-  answers = λ xs known.
-      let s = p.leads xs known in (
-        s.0,
-        s.1,
-        s.2 ∙ (ap (λ j. content_on name j content s.0) none ∙ content_none name content s.0),
-      );
-}
+content_ends name {missing = missing} {content = content} none p = search (rules, content_none)
 
 -- ---- a prefix that was shown and taken
 
@@ -119,9 +95,7 @@ take_take (suc n) (suc m) (x ∷ xs) h = ap (λ zs. x ∷ zs) (take_take n m xs 
 
 prefix_is : (want n : ℕ) (shown xs : List ℕ) → IsPrefix want shown xs → n ≤ length shown
     → take n shown ≡ take n xs
-prefix_is want n shown xs prefix h =
-    let cut : take n (take (length shown) xs) ≡ take n xs = take_take n (length shown) xs h in
-    ap (take n) (sym prefix.begins) ∙ cut
+prefix_is want n shown xs prefix h = search (rules, take_take)
 
 took_prefix : (want n : ℕ) (shown xs : List ℕ) (new : Option (List ℕ)) → IsPrefix want shown xs
     → n ≤ length shown → IsBytes (take n shown) → new ≡ Some (drop n xs) → Took xs new n
@@ -134,9 +108,7 @@ took_prefix want n shown xs new prefix h bytes left = record {
 counts_prefix : (n : ℕ) (xs ys : List ℕ) (a m b : View) → n ≤ length xs → ys ≡ drop n xs
     → m.taken ≡ a.taken → b.taken ≡ counts n m.taken → (k : ℕ) → k + length ys ≡ length xs
     → b.taken ≡ counts k a.taken
-counts_prefix n xs ys a m b h e first second k gone =
-    let same : n ≡ k = omega (arith, h, gone, ap length e, length-drop n xs) in
-    second ∙ ap₂ counts same first
+counts_prefix n xs ys a m b h e first second k gone = search (rules, length-drop)
 
 -- what was shown, and a part of it taken, is a reader's move
 prefix_kept : {want n : ℕ} {shown : List ℕ} {a m b : View} → Shows shown a m
@@ -186,9 +158,7 @@ pub prefix_shown : (a b : View) (answer : Option Reference) (lent : Reference)
     (shown : Bor (List ℕ))
     → answer ≡ Some lent → lent ≡ Long shown
     → MatchOption answer (ReaderFails a b) (λ s. Shows (bytes_of s) a b) → Shows shown.now a b
-prefix_shown a b answer lent shown e f h =
-    subst (λ (s : Reference). Shows (bytes_of s) a b) f
-    (subst (λ o. MatchOption o (ReaderFails a b) (λ s. Shows (bytes_of s) a b)) e h)
+prefix_shown a b answer lent shown e f h = search rules
 
 pub lends_prefix : {want n : ℕ} {shown content : List ℕ} {a m b : View} → Shows shown a m
     → IfKnown a.known (IsPrefix want shown) → n ≤ length shown → IsBytes (take n shown)

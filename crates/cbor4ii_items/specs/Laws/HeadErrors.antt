@@ -1,15 +1,14 @@
 -- A head that is rejected has one error: that of the program.
 use Rattle.std.proofs.Common.{◌≡◌, ◌≢◌, ℕ, zero, suc, ◌+◌, ◌*◌, ◌/◌, ◌%◌, ◌<◌, ◌≤◌, inl, inr, List}
-use Rattle.std.proofs.Common.{[], ◌∷◌, length, take, Some, Result, Err}
-use Rattle.std.proofs.Common.{Bool, true, false, refl, sym, ap, ap₂}
-use Rattle.std.proofs.Common.{◌∙◌, arith, ltb, leb, le-leb, eqb, eq-eqb, eqb-true, ltb-true}
-use Rattle.std.proofs.Common.{ltb-false, cond, ne_eqb}
+use Rattle.std.proofs.Common.{[], ◌∷◌, length, take, Result, Err, Bool, true, false, refl}
+use Rattle.std.proofs.Common.{sym, ap, ap₂, ◌∙◌, arith, ltb, le-leb, eqb, eq-eqb, eqb-true}
+use Rattle.std.proofs.Common.{ltb-true, ltb-false, cond, ne_eqb, rules}
 use Rattle.std.proofs.Math.Nat.{pow-le-pow_right}
 use Rattle.cbor4ii_rw.specs.declared.error.Len.TheVariants.{Small}
 use Rattle.cbor4ii_items.specs.Head.{Width, in_first, one as w_one, two, four, eight, byte_count}
 use Rattle.cbor4ii_items.specs.Head.{HeadFits, additional, indefinite_head}
 use Rattle.cbor4ii_items.specs.InputError.{InputError, mismatch, eof}
-use Rattle.cbor4ii_items.specs.Reading.{give, reject, go_on}
+use Rattle.cbor4ii_items.specs.Reading.{give, reject}
 use Rattle.cbor4ii_items.specs.Heads.{Begins, RejectsHead}
 use Rattle.cbor4ii_items.specs.ReadHead.{head_at, argument_at, number_on, argument_size}
 use Rattle.cbor4ii_items.specs.ReadHead.{allowed_info, length_at}
@@ -66,9 +65,7 @@ module _ (name : List ℕ) (major width b : ℕ) (bs : List ℕ)
 
   head_refused : (s : Bool) → eqb (b / 32) major ≡ s
       → cond s (argument_at name width b) (reject (mismatch name b)) bs ≡ Err (mismatch name b, bs)
-  head_refused true e =
-      argument_refused (ltb (b % 32) 24) (allowed_info width (b % 32)) (eqb-true (b / 32) major e)
-      refl refl
+  head_refused true e = search (rules, argument_refused, eqb-true)
   head_refused false e = refl
 
 -- ---- heads that are cut
@@ -79,28 +76,16 @@ argument_short : (wide : Width) (name : List ℕ) (width b n : ℕ) (bs : List �
     → length bs < byte_count wide
     → argument_at name width b bs ≡ Err (eof name (Small (byte_count wide)), [])
 argument_short in_first name width b n bs e fits le short = absurd (omega (arith, short))
-argument_short w_one name width b n bs e fits le short =
-    let t : leb 1 width ≡ true = le-leb 1 width le in
-    rw (e, t) (number_short name 1 1 0 bs short)
-argument_short two name width b n bs e fits le short =
-    let t : leb 2 width ≡ true = le-leb 2 width le in
-    rw (e, t) (number_short name 2 2 0 bs short)
-argument_short four name width b n bs e fits le short =
-    let t : leb 4 width ≡ true = le-leb 4 width le in
-    rw (e, t) (number_short name 4 4 0 bs short)
-argument_short eight name width b n bs e fits le short =
-    let t : leb 8 width ≡ true = le-leb 8 width le in
-    rw (e, t) (number_short name 8 8 0 bs short)
+argument_short w_one name width b n bs e fits le short = search (rules, le-leb, number_short)
+argument_short two name width b n bs e fits le short = search (rules, le-leb, number_short)
+argument_short four name width b n bs e fits le short = search (rules, le-leb, number_short)
+argument_short eight name width b n bs e fits le short = search (rules, le-leb, number_short)
 
 short_errs : (name : List ℕ) (major width b : ℕ) (bs : List ℕ) (wide : Width)
     → Begins major width b wide → length bs < byte_count wide
     → head_at name major width (b ∷ bs) ≡ Err (eof name (Small (byte_count wide)), [])
 short_errs name major width b bs wide h short =
-    let small : additional wide h.argument < 28 = additional-lt h.argument wide h.fits in
-    let high : b / 32 ≡ major = omega (arith, h.is, small) in
-    let low : b % 32 ≡ additional wide h.argument = omega (arith, h.is, small) in
-    let t : eqb (b / 32) major ≡ true = eq-eqb (b / 32) major high in
-    rw t (argument_short wide name width b h.argument bs low h.fits h.allowed short)
+    search (rules, additional-lt, eq-eqb, argument_short)
 
 -- ---- heads
 
@@ -108,19 +93,13 @@ short_errs name major width b bs wide h short =
 pub head_errs : (name : List ℕ) (major width : ℕ) (xs : List ℕ) (e : InputError) (x : List ℕ)
     → RejectsHead name major width xs e x → head_at name major width xs ≡ Err (e, x)
 head_errs name major width [] e x s = err_as (head_at name major width []) refl s.0 s.1
-head_errs name major width (b ∷ bs) e x (inl s) =
-    err_as (head_at name major width (b ∷ bs))
-    (head_refused name major width b bs s.none (eqb (b / 32) major) refl) s.answer s.left
-head_errs name major width (b ∷ bs) e x (inr s) =
-    err_as (head_at name major width (b ∷ bs))
-    (short_errs name major width b bs s.wide s.begins s.short) s.answer s.left
+head_errs name major width (b ∷ bs) e x (inl s) = search (rules, err_as, head_refused)
+head_errs name major width (b ∷ bs) e x (inr s) = search (rules, err_as, short_errs)
 
 pub head_error : (name : List ℕ) (major width : ℕ) (xs : List ℕ) (e f : InputError) (x y : List ℕ)
     → RejectsHead name major width xs e x → RejectsHead name major width xs f y
     → (e ≡ f) × (x ≡ y)
-head_error name major width xs e f x y s t =
-    same_input_error (head_at name major width xs) (head_errs name major width xs e x s)
-    (head_errs name major width xs f y t)
+head_error name major width xs e f x y s t = search (rules, same_input_error, head_errs)
 
 pub argument_error : (name : List ℕ) (major width : ℕ)
     → OneError (RejectsArgument name major width)
@@ -131,17 +110,13 @@ argument_error name major width xs budget e f x y s t = head_error name major wi
 length_byte_errs : (name : List ℕ) (major b : ℕ) (bs : List ℕ) (e : InputError) (x : List ℕ)
     → b ≢ indefinite_head major → head_at name major 8 (b ∷ bs) ≡ Err (e, x)
     → length_at name major (b ∷ bs) ≡ Err (e, x)
-length_byte_errs name major b bs e x other h =
-    let t : eqb b (indefinite_head major) ≡ false = ne_eqb b (indefinite_head major) other in
-    rw t (ap (λ z. go_on z (λ (n : ℕ). give (Some n))) h)
+length_byte_errs name major b bs e x other h = search (rules, ne_eqb)
 
 pub length_errs : (name : List ℕ) (major : ℕ) (xs : List ℕ) (e : InputError) (x : List ℕ)
     → (take 1 xs ≡ indefinite_head major ∷ [] → ⊥) → RejectsHead name major 8 xs e x
     → length_at name major xs ≡ Err (e, x)
 length_errs name major [] e x other s = err_as (length_at name major []) refl s.0 s.1
-length_errs name major (b ∷ bs) e x other s =
-    length_byte_errs name major b bs e x (λ same. other (ap (λ c. c ∷ []) same))
-    (head_errs name major 8 (b ∷ bs) e x s)
+length_errs name major (b ∷ bs) e x other s = search (rules, length_byte_errs, head_errs)
 
 pub length_error : (name : List ℕ) (major : ℕ) → OneError (RejectsLength name major)
 length_error name major xs budget e f x y s t = head_error name major 8 xs e f x y s.1 t.1

@@ -3,7 +3,7 @@ use Rattle.std.proofs.Common.{◌≡◌, ◌≢◌, ℕ, zero, suc, ◌+◌, ◌
 use Rattle.std.proofs.Common.{[], ◌∷◌, ◌++◌, length, drop, take, Ok, Bool, true, false, refl, sym}
 use Rattle.std.proofs.Common.{ap, ap₂, ◌∙◌, subst, arith, pow-suc, mul_comm, mod-eq_of_lt, lt-ltb}
 use Rattle.std.proofs.Common.{le-leb, ltb, leb, eqb, eq-eqb, eqb-true, ltb-true, ltb-false}
-use Rattle.std.proofs.Common.{leb-true, length-append, fold, cond, mul-le-mul_right}
+use Rattle.std.proofs.Common.{leb-true, length-append, fold, cond, mul-le-mul_right, rules}
 use Rattle.std.specs.Int.{byte_at as number_byte, bytes_high_first}
 use Rattle.std.proofs.lemmas.Nat.{div-mul-add}
 use Rattle.std.proofs.lemmas.List.{length-drop}
@@ -36,15 +36,11 @@ number_read : (name : List ℕ) (expect k n high : ℕ) (ys : List ℕ) → numb
 number_read name expect zero n high ys =
     let e : high * 256 ^ 0 + n % 256 ^ 0 ≡ high = omega arith in rw e refl
 number_read name expect (suc k) n high ys =
-    number_read name expect k n (high * 256 + number_byte k n) ys
-    ∙ ap (λ (z : ℕ). Ok (z, ys)) (byte_on k n high)
+    search (rules, byte_on, (number_read name expect k n (high * 256 + number_byte k n) ys))
 
 pub number_again : (name : List ℕ) (expect k n : ℕ) (ys : List ℕ) → n < 256 ^ k
     → number_on name expect k 0 (bytes_high_first k n ++ ys) ≡ Ok (n, ys)
-number_again name expect k n ys h =
-    let same : 0 * 256 ^ k + n % 256 ^ k ≡ n = let m : n % 256 ^ k ≡ n = mod-eq_of_lt h in
-    omega (arith, m) in
-    number_read name expect k n 0 ys ∙ ap (λ (z : ℕ). Ok (z, ys)) same
+number_again name expect k n ys h = search (rules, mod-eq_of_lt, number_read)
 
 pub length-bytes_high_first : (k n : ℕ) → length (bytes_high_first k n) ≡ k
 length-bytes_high_first zero n = refl
@@ -55,9 +51,7 @@ argument_again : (name : List ℕ) (w : Width) (v width b : ℕ) (ys : List ℕ)
     → argument_at name width b (bytes_high_first (byte_count w) v ++ ys) ≡ Ok (v, ys)
 argument_again name in_first v width b ys e h le =
     let t : ltb v 24 ≡ true = lt-ltb v 24 (omega arith) in rw (e, t) refl
-argument_again name w_one v width b ys e h le =
-    let t : leb 1 width ≡ true = le-leb 1 width le in
-    rw (e, t) (number_again name 1 1 v ys (omega arith))
+argument_again name w_one v width b ys e h le = search (rules, le-leb, number_again)
 argument_again name two v width b ys e h le =
     let t : leb 2 width ≡ true = le-leb 2 width le in rw (e, t) (number_again name 2 2 v ys h)
 argument_again name four v width b ys e h le =
@@ -84,12 +78,7 @@ if_cases P true x y f g = f refl
 if_cases P false x y f g = g refl
 
 pub shortest_fits : (n : ℕ) → n < 2 ^ 64 → HeadFits (shortest_width n) n
-shortest_fits n h =
-    let P : Width → Type 0 = λ w. HeadFits w n in
-    if_cases P (ltb n 24) _ _ (λ e. let lt = ltb-true n 24 e in omega (arith, lt))
-    (λ _. if_cases P (ltb n 256) _ _ (λ e. ltb-true n 256 e)
-    (λ _. if_cases P (ltb n (256 ^ 2)) _ _ (λ e. ltb-true n (256 ^ 2) e)
-    (λ _. if_cases P (ltb n (256 ^ 4)) _ _ (λ e. ltb-true n (256 ^ 4) e) (λ _. h))))
+shortest_fits n h = search (rules, if_cases, ltb-true)
 
 pub argument_below : (w : Width) (n : ℕ) → HeadFits w n → n < 2 ^ 64
 argument_below in_first n h = omega arith
@@ -110,22 +99,12 @@ byte_count-le eight = omega arith
 
 pub head_again : (name : List ℕ) (w : Width) (major v width : ℕ) (ys : List ℕ) → HeadFits w v
     → byte_count w ≤ width → head_at name major width (head major v w ++ ys) ≡ Ok (v, ys)
-head_again name w major v width ys h le =
-    let small : additional w v < 28 = additional-lt v w h in
-    let high : (32 * major + additional w v) / 32 ≡ major = omega (arith, small) in
-    let low : (32 * major + additional w v) % 32 ≡ additional w v = omega (arith, small) in
-    let t : eqb ((32 * major + additional w v) / 32) major ≡ true =
-    eq-eqb ((32 * major + additional w v) / 32) major high in
-    rw t (argument_again name w v width (32 * major + additional w v) ys low h le)
+head_again name w major v width ys h le = search (rules, additional-lt, eq-eqb, argument_again)
 
 pub following_head : (w : Width) (major v n : ℕ) (ys : List ℕ) → n ≡ suc (byte_count w)
     → (drop n (head major v w ++ ys) ≡ ys) × (n ≤ length (head major v w ++ ys))
 following_head w major v n ys e =
-    let long : length (head major v w) ≡ n =
-    ap suc (length-bytes_high_first (byte_count w) v) ∙ sym e in (
-      ap (λ j. drop j (head major v w ++ ys)) (sym long) ∙ drop-append_seam (head major v w) ys,
-      omega (arith, length-append (head major v w) ys, long),
-    )
+    search (rules, length-bytes_high_first, drop-append_seam, length-append)
 
 -- what follows a head that begins the input
 pub rest_after_head : (major width : ℕ) (xs : List ℕ) (v n : ℕ) → (h : ReadsHead major width xs v n)
@@ -138,14 +117,7 @@ pub head_read : (name : List ℕ) (major width : ℕ) (xs : List ℕ) (v n : ℕ
     → ReadsHead major width xs v n
     → (head_at name major width xs ≡ Ok (v, drop n xs)) × (n ≤ length xs) × (1 ≤ n)
 head_read name major width xs v n m h =
-    let b = following_head h.wide major v n h.rest h.count in
-    let a : head_at name major width xs ≡ Ok (v, h.rest) = ap (head_at name major width) h.is
-    ∙ head_again name h.wide major v width h.rest h.fits h.allowed in
-    let d : drop n xs ≡ h.rest = rest_after_head major width xs v n h in (
-      a ∙ ap (λ (zs : List ℕ). Ok (v, zs)) (sym d),
-      omega (arith, b.1, ap length h.is),
-      omega (arith, h.count),
-    )
+    search (rules, following_head, head_again, rest_after_head)
 
 abbrev pub onto : ℕ → List ℕ → ℕ
 onto high bs = fold (λ h b. h * 256 + b) high bs
@@ -165,12 +137,7 @@ onto_high (b ∷ bs) high =
 
 pub onto-lt : (bs : List ℕ) → IsBytes bs → onto 0 bs < 256 ^ length bs
 onto-lt [] h = omega arith
-onto-lt (b ∷ bs) h =
-    let unit = 256 ^ length bs in
-    let wider : 256 ^ suc (length bs) ≡ unit * 256 = pow-suc 256 (length bs) in
-    let tail : onto 0 (b ∷ bs) ≡ (0 * 256 + b) * unit + onto 0 bs = onto_high bs (0 * 256 + b) in
-    let top : b * unit ≤ 255 * unit = mul-le-mul_right unit (omega arith) in
-    omega (arith, onto-lt bs h.1, tail, wider, top)
+onto-lt (b ∷ bs) h = search (rules, pow-suc, onto_high, mul-le-mul_right, (onto-lt bs h.1))
 
 byte_at_top : (k high low : ℕ) → low < 256 ^ k → number_byte k (high * 256 ^ k + low) ≡ high % 256
 byte_at_top zero high low h = let e : high * 1 + low ≡ high = omega arith in rw e refl
@@ -180,33 +147,20 @@ pub bytes_onto : (bs : List ℕ) (high : ℕ) → IsBytes bs
     → bytes_high_first (length bs) (onto high bs) ≡ bs
 bytes_onto [] high h = refl
 bytes_onto (b ∷ bs) high h =
-    let low : (high * 256 + b) % 256 ≡ b = omega arith in
-    ap₂ ◌∷◌ (ap (number_byte (length bs)) (onto_high bs (high * 256 + b))
-    ∙ byte_at_top (length bs) (high * 256 + b) (onto 0 bs) (onto-lt bs h.1) ∙ low)
-    (bytes_onto bs (high * 256 + b) h.1)
+    search (rules, ◌∷◌, onto_high, byte_at_top, onto-lt, (bytes_onto bs (high * 256 + b) h.1))
 
 pub number_inverse : (name : List ℕ) (expect k high v : ℕ) (bs ys : List ℕ)
     → number_on name expect k high bs ≡ Ok (v, ys)
     → (bs ≡ take k bs ++ ys) × (length (take k bs) ≡ k) × (v ≡ onto high (take k bs))
-number_inverse name expect zero high v bs ys e =
-    let pair = same_value (Ok (high, bs)) refl e in
-    (pair.1, refl, sym pair.0)
+number_inverse name expect zero high v bs ys e = search (rules, same_value)
 number_inverse name expect (suc k) high v [] ys e = cc
 number_inverse name expect (suc k) high v (b ∷ bs) ys e =
-    let r = number_inverse name expect k (high * 256 + b) v bs ys e in
-    (ap (λ zs. b ∷ zs) r.0, ap suc r.1, r.2)
+    search (rules, (number_inverse name expect k (high * 256 + b) v bs ys e))
 
 -- the argument's bytes, and how great it can be
 pub number_is : (name : List ℕ) (expect k v : ℕ) (bs ys : List ℕ) → IsBytes (take k bs)
     → number_on name expect k 0 bs ≡ Ok (v, ys) → (bs ≡ bytes_high_first k v ++ ys) × (v < 256 ^ k)
-number_is name expect k v bs ys h e =
-    let r = number_inverse name expect k 0 v bs ys e in
-    let prefix : bytes_high_first k v ≡ take k bs =
-    ap₂ bytes_high_first (sym r.1) r.2 ∙ bytes_onto (take k bs) 0 h in (
-      r.0 ∙ ap (λ zs. zs ++ ys) (sym prefix),
-      subst (λ z. z < 256 ^ k) (sym r.2)
-          (subst (λ j. onto 0 (take k bs) < 256 ^ j) r.1 (onto-lt (take k bs) h)),
-    )
+number_is name expect k v bs ys h e = search (rules, number_inverse, bytes_onto, onto-lt)
 
 -- the width that the additional information i says
 pub record Wide (i : ℕ) : Type 0 where
@@ -281,31 +235,17 @@ argument_by : (s t : Bool) (name : List ℕ) (major width b v n : ℕ) (bs : Lis
     (reject (mismatch name b))) bs ≡ Ok (v, drop n (b ∷ bs))
     → ReadsHead major width (b ∷ bs) v n
 argument_by true t name major width b v n bs es et m room bytes e =
-    let pair = same_value (Ok (b % 32, bs)) refl e in
-    let value : b % 32 ≡ v = pair.0 in
-    let rest : bs ≡ drop n (b ∷ bs) = pair.1 in
-    let small : b % 32 < 24 = ltb-true (b % 32) 24 es in
-    record {
-      wide = in_first;
-      allowed = omega arith;
-      fits = omega (arith, small, value);
-      rest = bs;
-      is = ap (λ z. z ∷ bs) (two_parts b major m ∙ ap (λ j. 32 * major + j) value);
-      count = omega (arith, ap length rest, length-drop n (b ∷ bs), room);
-    }
+    search (rules, same_value, ltb-true, two_parts, length-drop)
 argument_by false false name major width b v n bs es et m room bytes e = cc
 argument_by false true name major width b v n bs es et m room bytes e =
-    let a = allowed_parts width (b % 32) et in
-    long_number name major width b v n (argument_size (b % 32)) bs m (ltb-false (b % 32) 24 es) a.0
-    a.1 refl room bytes e
+    search (rules, allowed_parts, long_number, ltb-false)
 
 head_by_inverse : (t : Bool) (name : List ℕ) (major width b v n : ℕ) (bs : List ℕ)
     → eqb (b / 32) major ≡ t → n ≤ length (b ∷ bs) → IsBytes (take n (b ∷ bs))
     → cond t (argument_at name width b) (reject (mismatch name b)) bs ≡ Ok (v, drop n (b ∷ bs))
     → ReadsHead major width (b ∷ bs) v n
 head_by_inverse true name major width b v n bs h room bytes e =
-    argument_by (ltb (b % 32) 24) (allowed_info width (b % 32)) name major width b v n bs refl refl
-    (eqb-true (b / 32) major h) room bytes e
+    search (rules, argument_by, eqb-true)
 head_by_inverse false name major width b v n bs h room bytes e = cc
 
 pub read_head : (name : List ℕ) (major width : ℕ) (xs : List ℕ) (v n : ℕ)
@@ -317,30 +257,16 @@ read_head name major width (b ∷ bs) v n e room bytes =
 
 pub head_one : (major width : ℕ) (xs : List ℕ) (v w n m : ℕ) → major < 8
     → ReadsHead major width xs v n → ReadsHead major width xs w m → (n ≡ m) × (v ≡ w)
-head_one major width xs v w n m h p q =
-    let a = head_read [] major width xs v n h p in
-    let b = head_read [] major width xs w m h q in
-    let pair = same_value (head_at [] major width xs) a.0 b.0 in
-    (omega (arith, ap length pair.1, length-drop n xs, length-drop m xs, a.1, b.1), pair.0)
+head_one major width xs v w n m h p q = search (rules, head_read, same_value, length-drop)
 
 head_prefix : (w : Width) (major v n : ℕ) (rest : List ℕ) → n ≡ suc (byte_count w) → (xs : List ℕ)
     → xs ≡ head major v w ++ rest → take n xs ≡ head major v w
-head_prefix w major v n rest e xs is =
-    let long : length (head major v w) ≡ n =
-    ap suc (length-bytes_high_first (byte_count w) v) ∙ sym e in
-    ap₂ take (sym long) is ∙ take-append_seam (head major v w) rest
+head_prefix w major v n rest e xs is = search (rules, length-bytes_high_first, take-append_seam)
 
 -- a head is read whatever follows it
 pub head_alone : (major width : ℕ) (xs ys : List ℕ) (v n : ℕ) → ReadsHead major width xs v n
     → ReadsHead major width (take n xs ++ ys) v n
-head_alone major width xs ys v n h = record {
-  wide = h.wide;
-  allowed = h.allowed;
-  fits = h.fits;
-  rest = ys;
-  is = ap (λ zs. zs ++ ys) (head_prefix h.wide major v n h.rest h.count xs h.is);
-  count = h.count;
-}
+head_alone major width xs ys v n h = search (rules, head_prefix)
 
 -- ---- cut heads
 

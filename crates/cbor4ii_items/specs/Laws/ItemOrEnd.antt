@@ -1,7 +1,6 @@
 -- An item, or the end of a sequence.
 use Rattle.std.proofs.Common.{◌≡◌, ℕ, ◌≤◌, List, [], ◌∷◌, length, drop, Option, None, Some, Bool}
-use Rattle.std.proofs.Common.{true, false, Ok, Err, refl, sym, ap, ◌∙◌, arith}
-use Rattle.std.proofs.Common.{◌==◌, ne_eqb}
+use Rattle.std.proofs.Common.{true, false, Ok, Err, refl, sym, ap, ◌∙◌, arith, ◌==◌, ne_eqb, rules}
 use Rattle.cbor4ii_rw.specs.Reader.{Shows, IsPrefix}
 use Rattle.cbor4ii_rw.specs.View.{View, IfKnown}
 use Rattle.cbor4ii_rw.specs.declared.error.DecodeError.{DecodeError}
@@ -10,8 +9,7 @@ use Rattle.cbor4ii_items.specs.InputError.{InputError, is_out_of_memory}
 use Rattle.cbor4ii_items.specs.ItemOrEnd.{end_at, item_or_end}
 use Rattle.cbor4ii_items.specs.Laws.Answering.{fits_zero}
 use Rattle.cbor4ii_items.specs.Laws.Calls.{IsRejected, err_of, err_after, decodes_exactly, ok}
-use Rattle.cbor4ii_items.specs.Laws.Calls.{ok_after}
-use Rattle.cbor4ii_items.specs.Laws.Calls.{of_exact}
+use Rattle.cbor4ii_items.specs.Laws.Calls.{ok_after, of_exact}
 use Rattle.cbor4ii_items.specs.Laws.Outcome.{same_value}
 use Rattle.cbor4ii_items.specs.Laws.Running.{shows_kept}
 use Rattle.cbor4ii_items.specs.Reading.{Runs}
@@ -22,17 +20,11 @@ end_of : (shown xs : List ℕ) → IsPrefix 1 shown xs → end_at xs ≡ Ok (len
 end_of [] [] p = refl
 end_of [] (x ∷ xs) p = let none : x ∷ xs ≡ [] = p.ends (omega arith) refl in cc
 end_of (s ∷ ss) [] p = absurd (omega (arith, p.within))
-end_of (s ∷ ss) (x ∷ xs) p =
-    let some : length (s ∷ ss) == 0 ≡ false =
-    ne_eqb (length (s ∷ ss)) 0 (λ e. absurd (omega (arith, e))) in
-    ap (λ b. Ok (b, x ∷ xs)) (sym some)
+end_of (s ∷ ss) (x ∷ xs) p = search (rules, ne_eqb)
 
 pub runs_end : {E : Type 0} {shown : List ℕ} {a m : View} → Shows shown a m
     → IfKnown a.known (IsPrefix 1 shown) → Runs {E = E} end_at a m (Ok (length shown == 0))
-runs_end {shown = shown} s prefix = record {
-  moves = record { by = shows_kept s; depth = λ none. refl };
-  answers = λ xs known. (xs, s.known xs known, end_of shown xs (prefix xs known));
-}
+runs_end {shown = shown} s prefix = search (rules, shows_kept, end_of)
 
 ended : (xs ys : List ℕ) → end_at xs ≡ Ok (true, ys) → (xs ≡ []) × (ys ≡ drop 0 xs)
 ended [] ys e = (refl, sym (same_value (end_at []) refl e).1)
@@ -57,18 +49,7 @@ never s (x ∷ xs) budget z ys e = cc
 module _ {V E : Type 0} (s : Format V) {a m : View} where
   pub none_is_next : Runs {E = E} end_at a m (Ok true)
       → Decodes {E = E} (item_or_end s) a m (Ok None)
-  none_is_next p = ok (item_or_end s) p.moves.by (λ some. cc) (record {
-    at = λ xs known.
-        let h = p.answers xs known in
-        let e = ended xs h.0 h.2 in
-        record {
-          count = 0;
-          cost = 0;
-          read = (e.0, refl, refl);
-          fits = fits_zero a.budget;
-          left = h.1 ∙ ap Some e.1;
-        };
-  })
+  none_is_next p = search (rules, ok, fits_zero)
 
   pub end_fails : {e : DecodeError E} → Runs {V = Bool} end_at a m (Err e)
       → is_out_of_memory e ≡ false → Decodes (item_or_end s) a m (Err e)

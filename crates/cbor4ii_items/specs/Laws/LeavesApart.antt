@@ -1,9 +1,6 @@
 -- What is one head, one byte or one float is not read where it is rejected.
-use Rattle.std.proofs.Common.{◌≡◌, ℕ, ◌+◌, ◌*◌, inl, inr, List, [], ◌∷◌, ◌++◌, length, take, Some}
-use Rattle.std.proofs.Common.{None, true, false, sym, ap, ◌∙◌, arith, length-append}
-use Rattle.std.specs.Int.{bytes_high_first}
-use Rattle.cbor4ii_items.specs.Head.{Width, byte_count, additional, HeadFits}
-use Rattle.cbor4ii_items.specs.Initial.{info_of, wide as in_width}
+use Rattle.std.proofs.Common.{◌≡◌, ℕ, inl, inr, List, [], ◌∷◌, take, Some, None, true}
+use Rattle.std.proofs.Common.{false, length-append, rules}
 use Rattle.cbor4ii_items.specs.InputError.{InputError}
 use Rattle.cbor4ii_items.specs.Heads.{ReadsHead, RejectsHead}
 use Rattle.cbor4ii_items.specs.Numbers.{ReadsArgument, RejectsArgument, ReadsNegative}
@@ -15,40 +12,17 @@ use Rattle.cbor4ii_items.specs.Nothing.{ReadsNothing, RejectsNothing}
 use Rattle.cbor4ii_items.specs.Lengths.{ReadsLength, RejectsLength}
 use Rattle.cbor4ii_items.specs.NeverBoth.{NeverBoth}
 use Rattle.cbor4ii_items.specs.Strings.{ReadsBreak, RejectsBreak}
-use Rattle.cbor4ii_items.specs.Laws.Heads.{info-additional, same_wide, length-bytes_high_first}
+use Rattle.cbor4ii_items.specs.Laws.HeadErrors.{head_errs}
+use Rattle.cbor4ii_items.specs.Laws.Heads.{head_again, length-bytes_high_first}
+use Rattle.cbor4ii_items.specs.Laws.Outcome.{never_twice}
 
 -- ---- heads
-
--- a first byte says in how many bytes its argument follows
-one_width : (major b v w : ℕ) (u wide : Width) → HeadFits u v → HeadFits wide w
-    → b ≡ 32 * major + additional u v → b ≡ 32 * major + additional wide w
-    → byte_count u ≡ byte_count wide
-one_width major b v w u wide fits suits p q =
-    let info : additional u v ≡ additional wide w = omega (arith, p, q) in
-    let same : in_width u ≡ in_width wide =
-    sym (info-additional v u fits) ∙ (ap info_of info ∙ info-additional w wide suits) in
-    ap byte_count (same_wide u wide same)
 
 pub head_apart : (name : List ℕ) (major width : ℕ) (xs : List ℕ) (err : InputError)
     (rest : List ℕ) (v n : ℕ) → RejectsHead name major width xs err rest
     → ReadsHead major width xs v n → ⊥
-head_apart name major width [] err rest v n s h = let e = h.is in cc
-head_apart name major width (b ∷ bs) err rest v n (inl s) h =
-    let first : b ≡ 32 * major + additional h.wide v = (let e = h.is in cc) in
-    s.none h.wide (record { argument = v; fits = h.fits; allowed = h.allowed; is = first })
-head_apart name major width (b ∷ bs) err rest v n (inr s) h =
-    let first : b ≡ 32 * major + additional h.wide v = (let e = h.is in cc) in
-    let trailing : bs ≡ bytes_high_first (byte_count h.wide) v ++ h.rest = (let e = h.is in cc) in
-    let same = one_width major b v s.begins.argument h.wide s.wide h.fits s.begins.fits first
-    s.begins.is in
-    absurd (omega (
-      arith,
-      s.short,
-      same,
-      ap length trailing,
-      length-append (bytes_high_first (byte_count h.wide) v) h.rest,
-      length-bytes_high_first (byte_count h.wide) v,
-    ))
+head_apart name major width xs err rest v n s h =
+    search (rules, never_twice, head_again, head_errs)
 
 pub argument_apart : (name : List ℕ) (major width : ℕ)
     → NeverBoth (ReadsArgument major width) (RejectsArgument name major width)
@@ -94,13 +68,4 @@ float_apart name marker count [] budget err rest s v n c p fits = let e = p.is i
 float_apart name marker count (b ∷ bs) budget err rest (inl s) v n c p fits =
     let is : b ≡ marker = (let e = p.is in cc) in s.0 is
 float_apart name marker count (b ∷ bs) budget err rest (inr s) v n c p fits =
-    let trailing : bs ≡ bytes_high_first count v ++ p.rest = (let e = p.is in cc) in
-    let same : bs ≡ s.trailing = (let e = s.is in cc) in
-    absurd (omega (
-      arith,
-      s.short,
-      ap length same,
-      ap length trailing,
-      length-append (bytes_high_first count v) p.rest,
-      length-bytes_high_first count v,
-    ))
+    search (rules, length-append, length-bytes_high_first)

@@ -1,7 +1,7 @@
 -- Strings, simple values and floats are read back from what is written.
-use Rattle.std.proofs.Common.{◌≡◌, ℕ, suc, ◌<◌, ◌^◌, List, [], ◌∷◌, ◌++◌, length, drop, take, Bool}
+use Rattle.std.proofs.Common.{◌≡◌, ℕ, ◌<◌, ◌^◌, List, [], ◌∷◌, ◌++◌, length, drop, take, Bool}
 use Rattle.std.proofs.Common.{IsTrue, inl, refl, sym, ap, ◌∙◌, subst, arith, append_assoc}
-use Rattle.std.proofs.Common.{length-append}
+use Rattle.std.proofs.Common.{length-append, rules}
 use Rattle.std.specs.Prelude.{IsUtf8}
 use Rattle.std.proofs.Math.Seq.{take-append_seam, drop-append_seam}
 use Rattle.cbor4ii_items.specs.Head.{one, eight}
@@ -61,10 +61,4 @@ bool_back v rest = (refl, refl, refl)
 
 pub float_back : (marker count bits : ℕ) → bits < 256 ^ count
     → ReadsBack (ReadsFloat marker count) (float_bytes marker count bits) bits 0
-float_back marker count bits h rest = record {
-  fits = h;
-  rest = rest;
-  is = refl;
-  size = ap suc (length-bytes_high_first count bits);
-  cost = refl;
-}
+float_back marker count bits h rest = search (rules, length-bytes_high_first)

@@ -1,6 +1,6 @@
 -- An array of no item or one is read as its item is.
 use Rattle.std.proofs.Common.{◌≡◌, ℕ, ◌≤◌, List, [], ◌++◌, length, drop, take, Option, Some, None}
-use Rattle.std.proofs.Common.{Bool, true, IsTrue, sym, ◌∙◌, subst, arith}
+use Rattle.std.proofs.Common.{Bool, true, IsTrue, sym, ◌∙◌, subst, arith, rules}
 use Rattle.std.proofs.lemmas.List.{length-drop}
 use Rattle.cbor4ii_items.specs.Containers.{SameOption}
 use Rattle.cbor4ii_items.specs.Heads.{ReadsHead}
@@ -33,14 +33,7 @@ module _ {V : Type 0} (reads : Reads V) where
   pub maybe_within : StaysWithin reads → (xs : List ℕ) (v : Option V) (n c : ℕ)
       → ReadsMaybe reads xs v n c → n ≤ length xs
   maybe_within within xs None n c p = (head_read [] 4 8 xs 0 n (omega arith) p.0).1
-  maybe_within within xs (Some v) n c p =
-      omega (
-        arith,
-        p.bytes,
-        (head_read [] 4 8 xs 1 p.before (omega arith) p.head).1,
-        within (drop p.before xs) v p.count c p.item,
-        length-drop p.before xs,
-      )
+  maybe_within within xs (Some v) n c p = search (rules, head_read, length-drop)
 
   pub maybe_positive : (xs : List ℕ) (v : Option V) (n c : ℕ) → ReadsMaybe reads xs v n c → 1 ≤ n
   maybe_positive xs None n c p = (head_read [] 4 8 xs 0 n (omega arith) p.0).2

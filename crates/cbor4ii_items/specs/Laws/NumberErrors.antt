@@ -1,7 +1,7 @@
 -- A number that is rejected has one error: that of the program.
 use Rattle.std.proofs.Common.{◌≡◌, ◌≢◌, ℕ, ◌/◌, ◌^◌, ◌<◌, ◌≤◌, ◌⊎◌, inl, inr, List, []}
-use Rattle.std.proofs.Common.{length, take, drop, Some, Ok, Err, true, false, refl, sym, ap, ◌∙◌}
-use Rattle.std.proofs.Common.{arith, ltb, lt-ltb, le-ltb, eqb, ne_eqb}
+use Rattle.std.proofs.Common.{length, drop, Some, Ok, Err, true, false, refl, sym, ap, ◌∙◌}
+use Rattle.std.proofs.Common.{arith, ltb, lt-ltb, le-ltb, eqb, ne_eqb, rules}
 use Rattle.std.specs.Prelude.{codes}
 use Rattle.std.proofs.lemmas.List.{length-drop}
 use Rattle.cbor4ii_rw.specs.declared.error.Len.TheVariants.{Small}
@@ -48,28 +48,19 @@ half_errs : (name : List ℕ) (major width limit : ℕ) (xs : List ℕ) (e : Inp
 half_errs name major width limit xs e x m (head_rejected s) =
     ap (λ z. go_on z (below name limit)) (head_errs name major width xs e x s)
 half_errs name major width limit xs e x m (argument_too_great v n h most f g) =
-    err_as (head_below_at name major width limit xs)
-    (ap (λ z. go_on z (below name limit)) (head_read name major width xs v n m h).0
-    ∙ below_errs name limit v (drop n xs) most) f g
+    search (rules, err_as, head_read, below_errs)
 
 signed_other_by : (name plus minus : List ℕ) (width limit b : ℕ) → 2 ≤ b / 32
     → signed_by name plus minus width limit b ≡ reject (mismatch name b)
-signed_other_by name plus minus width limit b some =
-    let s : eqb (b / 32) 0 ≡ false = ne_eqb (b / 32) 0 (λ e. omega (arith, some, e)) in
-    let t : eqb (b / 32) 1 ≡ false = ne_eqb (b / 32) 1 (λ e. omega (arith, some, e)) in
-    rw (s, t) refl
+signed_other_by name plus minus width limit b some = search (rules, ne_eqb)
 
 module _ (name plus minus : List ℕ) (width limit : ℕ) where
-  signed_errs : (xs : List ℕ) (e : InputError) (x : List ℕ)
+  pub signed_errs : (xs : List ℕ) (e : InputError) (x : List ℕ)
       → RejectsSigned name plus minus width limit xs e x
       → signed_at name plus minus width limit xs ≡ Err (e, x)
-  signed_errs xs e x (no_signed_byte is f g) =
-      err_as (signed_at name plus minus width limit xs)
-      (ap (signed_at name plus minus width limit) is) f g
+  signed_errs xs e x (no_signed_byte is f g) = search (rules, err_as)
   signed_errs xs e x (no_signed_head b bs is some f g) =
-      err_as (signed_at name plus minus width limit xs)
-      (ap (λ z. go_on z (signed_by name plus minus width limit)) (peek_first name b bs xs is)
-      ∙ ap (λ p. p xs) (signed_other_by name plus minus width limit b some)) f g
+      search (rules, err_as, peek_first, signed_other_by)
   signed_errs xs e x (positive_rejected b bs is type s) =
       ap (λ z. go_on z (signed_by name plus minus width limit)) (peek_first name b bs xs is)
       ∙ (ap (λ p. p xs) (signed_positive_by name plus minus width limit b type)
@@ -90,10 +81,7 @@ magnitude_errs : (name xs : List ℕ) (e : InputError) (x : List ℕ) → Reject
     → magnitude_at name xs ≡ Err (e, x)
 magnitude_errs name xs e x (length_rejected other s) =
     ap (λ z. go_on z (magnitude_by name)) (length_errs name 2 xs e x other s)
-magnitude_errs name xs e x (length_indefinite is f) =
-    err_as (magnitude_at name xs)
-    (ap (λ z. go_on z (magnitude_by name)) (no_length name 2 xs (ap (take 1) is))) f
-    (sym (ap (drop 1) is))
+magnitude_errs name xs e x (length_indefinite is f) = search (rules, err_as, no_length)
 magnitude_errs name xs e x (length_too_great count before h most f g) =
     let t : ltb 16 count ≡ true = lt-ltb 16 count most in
     let a : magnitude_by name (Some count) (drop before xs)
@@ -129,30 +117,21 @@ u128_other_by b other = let t : eqb (b / 32) 0 ≡ false = ne_eqb (b / 32) 0 oth
 -- the tag of a bignum begins the bytes
 u128_tagged : (xs : List ℕ) (tag before : ℕ) → ReadsHead 6 1 xs tag before
     → u128_at xs ≡ unsigned_bignum_at tag (drop before xs)
-u128_tagged xs tag before h =
-    let s = starts 6 1 xs tag before h in
-    ap (λ z. go_on z u128_by) (peek_first (codes "u128") s.first s.others xs s.is)
-    ∙ (ap (λ p. p xs) (u128_other_by s.first (λ e. omega (arith, s.type, e)))
-    ∙ ap (λ z. go_on z unsigned_bignum_at)
-    (head_read (codes "u128") 6 1 xs tag before (omega arith) h).0)
+u128_tagged xs tag before h = search (rules, starts, peek_first, u128_other_by, head_read)
 
 u128_other_tag : (tag : ℕ) (ys : List ℕ) → tag ≢ 2
     → unsigned_bignum_at tag ys ≡ Err (mismatch (codes "u128::tag") tag, ys)
 u128_other_tag tag ys other = let t : eqb tag 2 ≡ false = ne_eqb tag 2 other in rw t refl
 
-u128_errs : (xs : List ℕ) (e : InputError) (x : List ℕ) → RejectsU128 xs e x
+pub u128_errs : (xs : List ℕ) (e : InputError) (x : List ℕ) → RejectsU128 xs e x
     → u128_at xs ≡ Err (e, x)
 u128_errs xs e x (no_u128_byte is f g) = err_as (u128_at xs) (ap u128_at is) f g
 u128_errs xs e x (u128_head_rejected b bs is type s) =
-    ap (λ z. go_on z u128_by) (peek_first (codes "u128") b bs xs is)
-    ∙ (ap (λ p. p xs) (u128_unsigned b type) ∙ head_errs (codes "u64") 0 8 xs e x s)
+    search (rules, peek_first, u128_unsigned, head_errs)
 u128_errs xs e x (u128_tag_rejected b bs is other s) =
-    ap (λ z. go_on z u128_by) (peek_first (codes "u128") b bs xs is)
-    ∙ (ap (λ p. p xs) (u128_other_by b other) ∙ ap (λ z. go_on z unsigned_bignum_at)
-    (head_errs (codes "u128") 6 1 xs e x s))
+    search (rules, peek_first, u128_other_by, head_errs)
 u128_errs xs e x (other_u128_tag tag before h other f g) =
-    err_as (u128_at xs) (u128_tagged xs tag before h ∙ u128_other_tag tag (drop before xs) other)
-    f g
+    search (rules, err_as, u128_tagged, u128_other_tag)
 u128_errs xs e x (u128_bytes_rejected before h s) =
     u128_tagged xs 2 before h ∙ magnitude_errs (codes "u128::bytes") (drop before xs) e x s
 
@@ -164,26 +143,15 @@ u128_error xs budget e f x y s t =
 
 i128_other_by : (b : ℕ) → 2 ≤ b / 32
     → i128_by b ≡ (head_at (codes "i128") 6 1 >=> signed_bignum_at)
-i128_other_by b some =
-    let s : eqb (b / 32) 0 ≡ false = ne_eqb (b / 32) 0 (λ e. omega (arith, some, e)) in
-    let t : eqb (b / 32) 1 ≡ false = ne_eqb (b / 32) 1 (λ e. omega (arith, some, e)) in
-    rw (s, t) refl
+i128_other_by b some = search (rules, ne_eqb)
 
 i128_tagged : (xs : List ℕ) (tag before : ℕ) → ReadsHead 6 1 xs tag before
     → i128_at xs ≡ signed_bignum_at tag (drop before xs)
-i128_tagged xs tag before h =
-    let s = starts 6 1 xs tag before h in
-    ap (λ z. go_on z i128_by) (peek_first (codes "i128") s.first s.others xs s.is)
-    ∙ (ap (λ p. p xs) (i128_other_by s.first (omega (arith, s.type)))
-    ∙ ap (λ z. go_on z signed_bignum_at)
-    (head_read (codes "i128") 6 1 xs tag before (omega arith) h).0)
+i128_tagged xs tag before h = search (rules, starts, peek_first, i128_other_by, head_read)
 
 i128_other_tag : (tag : ℕ) (ys : List ℕ) → tag ≢ 2 → tag ≢ 3
     → signed_bignum_at tag ys ≡ Err (mismatch (codes "i128::tag") tag, ys)
-i128_other_tag tag ys p q =
-    let s : eqb tag 2 ≡ false = ne_eqb tag 2 p in
-    let t : eqb tag 3 ≡ false = ne_eqb tag 3 q in
-    rw (s, t) refl
+i128_other_tag tag ys p q = search (rules, ne_eqb)
 
 small_errs : (name xs : List ℕ) (e : InputError) (x : List ℕ) → RejectsMagnitude name xs e x
     → small_magnitude_at name xs ≡ Err (e, x)
@@ -192,9 +160,7 @@ small_errs name xs e x s =
 
 small_too_great : (name xs : List ℕ) (v : ℕ) (ys : List ℕ) → magnitude_at name xs ≡ Ok (v, ys)
     → 2 ^ 127 ≤ v → small_magnitude_at name xs ≡ Err (cast_overflow (codes "i128"), ys)
-small_too_great name xs v ys h most =
-    ap (λ z. go_on z (below (codes "i128") (2 ^ 127))) h
-    ∙ below_errs (codes "i128") (2 ^ 127) v ys most
+small_too_great name xs v ys h most = search (rules, below_errs)
 
 bignum_too_great : (tag : ℕ) (xs : List ℕ) (v n : ℕ) → (tag ≡ 2) ⊎ (tag ≡ 3)
     → (g : ReadsBignum tag xs v n) → 2 ^ 127 ≤ v
@@ -208,21 +174,15 @@ bignum_too_great tag xs v n (inr is) g most =
     (small_too_great (codes "-i128::bytes") (drop g.before xs) v (drop n xs)
     (number_after tag (codes "-i128::bytes") xs v n g) most)
 
-i128_errs : (xs : List ℕ) (e : InputError) (x : List ℕ) → RejectsI128 xs e x
+pub i128_errs : (xs : List ℕ) (e : InputError) (x : List ℕ) → RejectsI128 xs e x
     → i128_at xs ≡ Err (e, x)
 i128_errs xs e x (no_i128_byte is f g) = err_as (i128_at xs) (ap i128_at is) f g
 i128_errs xs e x (i128_head_rejected b bs is type s) =
-    ap (λ z. go_on z i128_by) (peek_first (codes "i128") b bs xs is)
-    ∙ (ap (λ p. p xs) (i128_positive_by b type) ∙ ap (λ z. go_on z as_positive)
-    (head_errs (codes "u64") 0 8 xs e x s))
+    search (rules, peek_first, i128_positive_by, head_errs)
 i128_errs xs e x (i128_negative_rejected b bs is type s) =
-    ap (λ z. go_on z i128_by) (peek_first (codes "i128") b bs xs is)
-    ∙ (ap (λ p. p xs) (i128_negative_by b type) ∙ ap (λ z. go_on z as_negative)
-    (head_errs (codes "i128") 1 8 xs e x s))
+    search (rules, peek_first, i128_negative_by, head_errs)
 i128_errs xs e x (i128_tag_rejected b bs is some s) =
-    ap (λ z. go_on z i128_by) (peek_first (codes "i128") b bs xs is)
-    ∙ (ap (λ p. p xs) (i128_other_by b some) ∙ ap (λ z. go_on z signed_bignum_at)
-    (head_errs (codes "i128") 6 1 xs e x s))
+    search (rules, peek_first, i128_other_by, head_errs)
 i128_errs xs e x (other_i128_tag tag before h p q f g) =
     err_as (i128_at xs) (i128_tagged xs tag before h ∙ i128_other_tag tag (drop before xs) p q) f g
 i128_errs xs e x (i128_bytes_rejected before h s) =

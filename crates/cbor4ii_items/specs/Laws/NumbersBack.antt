@@ -2,14 +2,14 @@
 use Rattle.std.proofs.Common.{◌≡◌, ℕ, zero, suc, ◌^◌, ◌<◌, ◌≤◌, ◌⊎◌, inl, inr, List, [], ◌∷◌, ◌++◌}
 use Rattle.std.proofs.Common.{length, drop, take, Bool, true, false, IsTrue, refl, sym, ap, ◌∙◌}
 use Rattle.std.proofs.Common.{subst, arith, append_assoc, cond, Option, Some, None, IfSome, ltb}
-use Rattle.std.proofs.Common.{ltb-true, ltb-false, length-append}
+use Rattle.std.proofs.Common.{ltb-true, lt-ltb, length-append, rules}
 use Rattle.std.specs.Prelude.{ℤ, pos, negsuc}
 use Rattle.std.specs.Int.{byte_at as number_byte, bytes_high_first}
 use Rattle.std.proofs.Math.Seq.{take-append_seam, drop-append_seam, take-length}
 use Rattle.cbor4ii_items.specs.Head.{Width, in_first, one as w_one, two, four, eight, byte_count}
-use Rattle.cbor4ii_items.specs.Head.{HeadFits, shortest_width, IsBytes}
+use Rattle.cbor4ii_items.specs.Head.{shortest_width, IsBytes}
 use Rattle.cbor4ii_items.specs.Heads.{ReadsHead}
-use Rattle.cbor4ii_items.specs.Laws.Heads.{length-bytes_high_first, number_again}
+use Rattle.cbor4ii_items.specs.Laws.Heads.{length-bytes_high_first, number_again, byte_count-le}
 use Rattle.cbor4ii_items.specs.ReadHead.{number_on}
 use Rattle.cbor4ii_items.specs.Magnitude.{number_of, without_leading_zeros, magnitude}
 use Rattle.cbor4ii_items.specs.Numbers.{ReadsArgument, ReadsSigned, IsWithin, ReadsMagnitude}
@@ -28,30 +28,19 @@ use Rattle.cbor4ii_items.specs.Budget.{CostFits}
 
 -- ---- the shortest head
 
-least_one : (v : ℕ) (wide : Width) → 24 ≤ v → v < 256 ^ byte_count wide → 1 ≤ byte_count wide
-least_one v in_first low h = absurd (omega arith)
-least_one v _ low h = omega arith
+at_most : (a : Bool) (w u : Width) (n : ℕ) → byte_count w ≤ n → byte_count u ≤ n
+    → byte_count (cond a w u) ≤ n
+at_most true w u n p q = p
+at_most false w u n p q = q
 
-least_two : (v : ℕ) (wide : Width) → 256 ≤ v → v < 256 ^ byte_count wide → 2 ≤ byte_count wide
-least_two v in_first low h = absurd (omega arith)
-least_two v w_one low h = absurd (omega arith)
-least_two v two low h = omega arith
-least_two v four low h = omega arith
-least_two v eight low h = omega arith
-
-least_four : (v : ℕ) (wide : Width) → 256 ^ 2 ≤ v → v < 256 ^ byte_count wide → 4 ≤ byte_count wide
-least_four v in_first low h = absurd (omega arith)
-least_four v w_one low h = absurd (omega arith)
-least_four v two low h = absurd (omega arith)
-least_four v four low h = omega arith
-least_four v eight low h = omega arith
-
-least_eight : (v : ℕ) (wide : Width) → 256 ^ 4 ≤ v → v < 256 ^ byte_count wide → 8 ≤ byte_count wide
-least_eight v in_first low h = absurd (omega arith)
-least_eight v w_one low h = absurd (omega arith)
-least_eight v two low h = absurd (omega arith)
-least_eight v four low h = absurd (omega arith)
-least_eight v eight low h = omega arith
+-- no smaller width fits
+least : (v : ℕ) (wide : Width) → v < 256 ^ byte_count wide
+    → byte_count (shortest_width v) ≤ byte_count wide
+least v in_first h = let t : ltb v 24 ≡ true = lt-ltb v 24 (omega arith) in rw t (omega arith)
+least v w_one h = search (rules, lt-ltb, at_most, w_one)
+least v two h = search (rules, lt-ltb, at_most, w_one)
+least v four h = search (rules, lt-ltb, at_most, w_one, four)
+least v eight h = byte_count-le (shortest_width v)
 
 greatest : (v : ℕ) (wide : Width) → v < 256 ^ byte_count wide → v < 256 ^ 8
 greatest v in_first h = omega arith
@@ -60,41 +49,10 @@ greatest v two h = omega arith
 greatest v four h = omega arith
 greatest v eight h = h
 
--- the width fits, and no smaller one does
-record IsShortest (v : ℕ) (width wide : Width) : Type 0 where
-  fits : HeadFits width v
-  least : byte_count width ≤ byte_count wide
-
-shortest_by : (a b c d : Bool) (v : ℕ) (wide : Width) → ltb v 24 ≡ a → ltb v 256 ≡ b
-    → ltb v (256 ^ 2) ≡ c → ltb v (256 ^ 4) ≡ d → v < 256 ^ byte_count wide
-    → IsShortest v (cond a in_first (cond b w_one (cond c two (cond d four eight)))) wide
-shortest_by true b c d v wide p q r s h =
-    let small : v < 24 = ltb-true v 24 p in
-    record { fits = omega (arith, small); least = omega arith }
-shortest_by false true c d v wide p q r s h =
-    record { fits = ltb-true v 256 q; least = least_one v wide (ltb-false v 24 p) h }
-shortest_by false false true d v wide p q r s h =
-    record { fits = ltb-true v (256 ^ 2) r; least = least_two v wide (ltb-false v 256 q) h }
-shortest_by false false false true v wide p q r s h =
-    record { fits = ltb-true v (256 ^ 4) s; least = least_four v wide (ltb-false v (256 ^ 2) r) h }
-shortest_by false false false false v wide p q r s h =
-    record { fits = greatest v wide h; least = least_eight v wide (ltb-false v (256 ^ 4) s) h }
-
 pub head_back : (major : ℕ) (wide : Width) (v : ℕ) → v < 256 ^ byte_count wide → (rest : List ℕ)
     → ReadsHead major (byte_count wide)
     (shortest_head major v ++ rest) v (length (shortest_head major v))
-head_back major wide v h rest =
-    let s : IsShortest v (shortest_width v) wide = shortest_by (ltb v 24) (ltb v 256)
-    (ltb v (256 ^ 2))
-    (ltb v (256 ^ 4)) v wide refl refl refl refl h in
-    record {
-      wide = shortest_width v;
-      allowed = s.least;
-      fits = s.fits;
-      rest = rest;
-      is = refl;
-      count = ap suc (length-bytes_high_first (byte_count (shortest_width v)) v);
-    }
+head_back major wide v h rest = search rules
 
 pub argument_back : (major : ℕ) (wide : Width) (v : ℕ) → v < 256 ^ byte_count wide
     → ReadsBack (ReadsArgument major (byte_count wide)) (shortest_head major v) v 0
@@ -145,34 +103,7 @@ number_of_bytes k n h =
 string_back : (content rest : List ℕ) → length content ≤ 16 → IsBytes content
     → ReadsMagnitude (definite_string 2 content ++ rest) (number_of content)
     (length (definite_string 2 content))
-string_back content rest short bytes =
-    let start = shortest_head 2 (length content) in
-    let whole : definite_string 2 content ++ rest ≡ start ++ (content ++ rest) =
-    append_assoc start content rest in
-    let trailing : drop (length start) (definite_string 2 content ++ rest) ≡ content ++ rest =
-    ap (drop (length start)) whole ∙ drop-append_seam start (content ++ rest) in
-    let inner : take (length content)
-    (drop (length start) (definite_string 2 content ++ rest)) ≡ content =
-    ap (take (length content)) trailing ∙ take-append_seam content rest in
-    let small : length content < 256 ^ 8 = omega (arith, short) in
-    record {
-      count = length content;
-      before = length start;
-      counted =
-          subst (λ zs. ReadsHead 2 8 zs (length content) (length start)) (sym whole)
-          (head_back 2 eight (length content) small (content ++ rest));
-      short = short;
-      within =
-          omega (
-            arith,
-            ap length whole,
-            length-append start (content ++ rest),
-            length-append content rest,
-          );
-      bytes = subst IsBytes (sym inner) bytes;
-      value = ap number_of (sym inner);
-      size = length-append start content;
-    }
+string_back content rest short bytes = search (rules, take-append_seam, length-append)
 
 bignum_back : (tag v : ℕ) → tag < 256 → v < 256 ^ 16 → (rest : List ℕ)
     → ReadsBignum tag (bignum_bytes tag v ++ rest) v (length (bignum_bytes tag v))

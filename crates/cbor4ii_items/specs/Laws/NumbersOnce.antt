@@ -1,5 +1,5 @@
 -- A number, a simple value or a length is rejected with one error, and is then not read.
-use Rattle.std.proofs.Common.{ℕ, List}
+use Rattle.std.proofs.Common.{ℕ, List, rules}
 use Rattle.std.specs.Prelude.{codes}
 use Rattle.cbor4ii_items.specs.Decoding.{Format, format_by, taking_memory, leaf_format}
 use Rattle.cbor4ii_items.specs.Floats.{float_format}
@@ -20,10 +20,7 @@ use Rattle.cbor4ii_items.specs.Laws.NumbersApart.{signed_apart, u128_apart, i128
 
 pub once_by : {U V : Type 0} (part : V → U) (s : Format U) → RejectsOnce s
     → RejectsOnce (format_by part s)
-once_by part s h = record {
-  apart = λ xs budget e x r v. h.apart xs budget e x r (part v);
-  one_error = h.one_error;
-}
+once_by part s h = search rules
 
 pub once_in_memory : {V : Type 0} (s : Format V) → RejectsOnce s → RejectsOnce (taking_memory s)
 once_in_memory s h = record { apart = h.apart; one_error = h.one_error }
@@ -32,10 +29,7 @@ once_in_memory s h = record { apart = h.apart; one_error = h.one_error }
 
 pub argument_once : (name : List ℕ) (major width : ℕ)
     → RejectsOnce (argument_format name major width)
-argument_once name major width = record {
-  apart = argument_apart name major width;
-  one_error = argument_error name major width;
-}
+argument_once name major width = search (rules, argument_apart, argument_error)
 
 pub negative_once : (name : List ℕ) (width : ℕ) → RejectsOnce (negative_format name width)
 negative_once name width =
@@ -43,10 +37,7 @@ negative_once name width =
 
 pub signed_once : (name plus minus : List ℕ) (width limit : ℕ)
     → RejectsOnce (signed_format name plus minus width limit)
-signed_once name plus minus width limit = record {
-  apart = signed_apart name plus minus width limit;
-  one_error = signed_error name plus minus width limit;
-}
+signed_once name plus minus width limit = search (rules, signed_apart, signed_error)
 
 pub u128_once : RejectsOnce (leaf_format ReadsU128 (λ xs budget. RejectsU128 xs))
 u128_once = record { apart = u128_apart; one_error = u128_error }
@@ -64,16 +55,10 @@ pub bool_once : RejectsOnce bool_format
 bool_once = record { apart = bool_apart; one_error = bool_error }
 
 pub float_once : (name : List ℕ) (marker count : ℕ) → RejectsOnce (float_format name marker count)
-float_once name marker count = record {
-  apart = float_apart name marker count;
-  one_error = float_error name marker count;
-}
+float_once name marker count = search (rules, float_apart, float_error)
 
 pub length_once : (name : List ℕ) (major : ℕ) → RejectsOnce (length_format name major)
-length_once name major = record {
-  apart = length_apart name major;
-  one_error = length_error name major;
-}
+length_once name major = search (rules, length_apart, length_error)
 
 pub break_once : RejectsOnce break_format
 break_once = record { apart = break_apart; one_error = break_error }

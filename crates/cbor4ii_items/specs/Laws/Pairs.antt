@@ -1,15 +1,14 @@
 -- A key, and its value after it.
 use Rattle.std.proofs.Common.{◌≡◌, ℕ, ◌+◌, ◌≤◌, inl, inr, List, drop, Option, Some, Ok, Err, refl}
-use Rattle.std.proofs.Common.{ap, ◌∙◌}
-use Rattle.std.proofs.Common.{subst, arith, max, IsTrue, Bool, true, false}
+use Rattle.std.proofs.Common.{ap, ◌∙◌, subst, arith, max, IsTrue, Bool, true, false}
 use Rattle.cbor4ii_rw.specs.View.{View}
 use Rattle.cbor4ii_rw.specs.declared.error.DecodeError.{DecodeError}
 use Rattle.std.specs.Prelude.{◌||◌}
-use Rattle.cbor4ii_items.specs.Decoding.{Reads, Sound}
+use Rattle.cbor4ii_items.specs.Decoding.{Reads, Sound, RejectsAt, NoneRead, Format, IsLawful}
+use Rattle.cbor4ii_items.specs.Decoding.{Decodes, DecodesIf}
 use Rattle.cbor4ii_items.specs.Budget.{CostFits}
 use Rattle.cbor4ii_items.specs.Moves.{Kept}
 use Rattle.cbor4ii_items.specs.Laws.Steps.{kept_then}
-use Rattle.cbor4ii_items.specs.Decoding.{RejectsAt, NoneRead, Format, IsLawful, Decodes, DecodesIf}
 use Rattle.cbor4ii_items.specs.Sequences.{ReadsPair, RejectsAfterKey, pair_format}
 use Rattle.cbor4ii_items.specs.InputError.{InputError}
 use Rattle.cbor4ii_items.specs.Laws.Calls.{ok, err_after}

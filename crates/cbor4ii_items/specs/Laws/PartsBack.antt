@@ -1,7 +1,7 @@
 -- Lengths, items after a head, and sequences are read back from what is written.
 use Rattle.std.proofs.Common.{◌≡◌, ℕ, ◌+◌, ◌<◌, ◌^◌, List, [], ◌∷◌, ◌++◌, length, drop, Bool, Some}
-use Rattle.std.proofs.Common.{None, inl, refl, sym, ap, ◌∙◌, subst, arith, append_assoc}
-use Rattle.std.proofs.Common.{length-append}
+use Rattle.std.proofs.Common.{None, inl, refl, sym, subst, arith, append_assoc}
+use Rattle.std.proofs.Common.{length-append, rules}
 use Rattle.std.specs.Prelude.{All}
 use Rattle.std.proofs.lemmas.List.Elements.{All-head, All-tail}
 use Rattle.std.proofs.Math.Seq.{drop-append_seam}
@@ -32,32 +32,20 @@ pub record StandsBetween (prefix bytes rest : List ℕ) : Type 0 where
   pub left : drop (length prefix) ((prefix ++ bytes) ++ rest) ≡ bytes ++ rest
 
 pub stands_between : (prefix bytes rest : List ℕ) → StandsBetween prefix bytes rest
-stands_between prefix bytes rest =
-    let e = append_assoc prefix bytes rest in
-    record {
-      whole = e;
-      left = ap (drop (length prefix)) e ∙ drop-append_seam prefix
-          (bytes ++ rest);
-    }
+stands_between prefix bytes rest = search (rules, append_assoc, drop-append_seam)
 
 -- a head of eight bytes of argument at most, whatever follows it
 pub head_before : (major k : ℕ) (bytes rest : List ℕ) → k < 2 ^ 64
     → ReadsHead major 8 ((shortest_head major k ++ bytes) ++ rest) k
     (length (shortest_head major k))
-head_before major k bytes rest h =
-    let start = shortest_head major k in
-    subst (λ zs. ReadsHead major 8 zs k (length start))
-    (sym (stands_between start bytes rest).whole)
-    (head_back major eight k h (bytes ++ rest))
+head_before major k bytes rest h = search (rules, stands_between, head_back, eight)
 
 -- what is read back, after a prefix
 item_after : {V : Type 0} (reads : Reads V) (prefix bytes : List ℕ) (v : V) (cost : ℕ)
     → ReadsBack reads bytes v cost
     → (rest : List ℕ) → reads (drop (length prefix) ((prefix ++ bytes) ++ rest)) v
     (length bytes) cost
-item_after reads prefix bytes v cost back rest =
-    subst (λ zs. reads zs v (length bytes) cost) (sym (stands_between prefix bytes rest).left)
-    (back rest)
+item_after reads prefix bytes v cost back rest = search (rules, stands_between)
 
 -- ---- items after a head
 
@@ -78,15 +66,7 @@ module _ {V : Type 0} (reads : Reads V) (bytes : List ℕ) (v : V) (cost : ℕ)
       }
 
   pub some_back : ReadsBack (ReadsMaybe reads) (shortest_head 4 1 ++ bytes) (Some v) cost
-  some_back rest =
-      let start = shortest_head 4 1 in
-      record {
-        before = length start;
-        head = head_before 4 1 bytes rest (omega arith);
-        count = length bytes;
-        item = item_after reads start bytes v cost back rest;
-        bytes = length-append start bytes;
-      }
+  some_back rest = search (rules, head_before, item_after, length-append)
 
 pub none_back : {V : Type 0} (reads : Reads V)
     → ReadsBack (ReadsMaybe reads) (shortest_head 4 0) None 0
@@ -145,17 +125,4 @@ pub pair_back : {K V : Type 0} (key_reads : Reads K) (value_reads : Reads V)
     → ReadsBack (ReadsPair key_reads value_reads)
     (pair_bytes key_bytes value_bytes p) p (pair_cost key_cost value_cost p)
 pair_back key_reads value_reads key_bytes value_bytes key_cost value_cost p key value rest =
-    let first = key_bytes p.0 in
-    let second = value_bytes p.1 in
-    record {
-      key_size = length first;
-      key_cost = key_cost p.0;
-      key =
-          subst (λ zs. key_reads zs p.0 (length first) (key_cost p.0))
-          (sym (stands_between first second rest).whole) (key (second ++ rest));
-      value_size = length second;
-      value_cost = value_cost p.1;
-      value = item_after value_reads first second p.1 (value_cost p.1) value rest;
-      size = length-append first second;
-      cost = refl;
-    }
+    search (rules, stands_between, item_after, length-append)

@@ -1,6 +1,6 @@
 -- Prefixes of bytes, one after another.
 use Rattle.std.proofs.Common.{◌≡◌, ℕ, zero, suc, ◌+◌, ◌≤◌, List, [], ◌∷◌, ◌++◌, length, drop, take}
-use Rattle.std.proofs.Common.{refl, sym, ap, ◌∙◌, append_assoc, arith}
+use Rattle.std.proofs.Common.{refl, sym, ap, ◌∙◌, append_assoc, arith, rules}
 use Rattle.std.proofs.Math.Seq.{drop-nil, take-add, take-append_seam, drop-append_seam}
 use Rattle.std.proofs.lemmas.List.{length-take-le}
 
@@ -13,9 +13,7 @@ drop_more m (suc n) (x ∷ xs) =
 -- a prefix of two parts, with other bytes after it
 pub two_prefixes : (i k n : ℕ) (xs ys : List ℕ) → n ≡ i + k
     → take n xs ++ ys ≡ take i xs ++ (take k (drop i xs) ++ ys)
-two_prefixes i k n xs ys e =
-    ap (λ j. take j xs ++ ys) e
-    ∙ (ap (λ zs. zs ++ ys) (take-add i k xs) ∙ append_assoc (take i xs) (take k (drop i xs)) ys)
+two_prefixes i k n xs ys e = search (rules, take-add, append_assoc)
 
 -- what follows a prefix
 pub after_prefix : (i : ℕ) (xs ys : List ℕ) → i ≤ length xs → drop i (take i xs ++ ys) ≡ ys

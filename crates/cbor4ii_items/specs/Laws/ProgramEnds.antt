@@ -1,8 +1,8 @@
 -- What a program of two parts answers, and that what it leaves is an end of what it was given.
-use Rattle.std.proofs.Common.{◌≡◌, ◌≢◌, ℕ, zero, suc, ◌+◌, ◌-◌, ◌*◌, ◌/◌, ◌%◌, ◌<◌, ◌≤◌, ◌⊎◌, inl}
+use Rattle.std.proofs.Common.{◌≡◌, ◌≢◌, ℕ, zero, suc, ◌+◌, ◌-◌, ◌*◌, ◌/◌, ◌<◌, ◌≤◌, ◌⊎◌, inl}
 use Rattle.std.proofs.Common.{inr, List, [], ◌∷◌, ◌++◌, length, take, drop, Option, None, Some}
-use Rattle.std.proofs.Common.{Result, Ok, Err, Bool, true, false, refl, sym, ap, ap₂, ◌∙◌, arith}
-use Rattle.std.proofs.Common.{ltb, eqb, eq-eqb, eqb-true, ltb-false, cond}
+use Rattle.std.proofs.Common.{Result, Ok, Err, Bool, true, false, refl, sym, ap, arith}
+use Rattle.std.proofs.Common.{ltb, eqb, eq-eqb, eqb-true, ltb-false, cond, rules}
 use Rattle.std.specs.Prelude.{codes}
 use Rattle.std.proofs.lemmas.List.{length-drop}
 use Rattle.cbor4ii_rw.specs.declared.error.Len.TheVariants.{Small}
@@ -11,7 +11,7 @@ use Rattle.cbor4ii_items.specs.InputError.{InputError, mismatch, eof, len_of}
 use Rattle.cbor4ii_items.specs.Reading.{Reading, give, reject, go_on, ◌>=>◌, byte_at}
 use Rattle.cbor4ii_items.specs.Laws.Outcome.{same_value, same_input_error}
 use Rattle.cbor4ii_items.specs.ReadHead.{number_on, argument_at, head_by, head_at, length_by}
-use Rattle.cbor4ii_items.specs.ReadHead.{length_at, argument_size, allowed_info}
+use Rattle.cbor4ii_items.specs.ReadHead.{length_at}
 use Rattle.cbor4ii_items.specs.ReadStrings.{content_on, break_at, chunk_by, chunk_inside_at}
 use Rattle.cbor4ii_items.specs.ReadStrings.{chunk_at}
 use Rattle.cbor4ii_items.specs.Laws.Prefixes.{drop_more}
@@ -29,11 +29,7 @@ passed_one : (b : ℕ) (bs ys : List ℕ) → bs ≡ ys → Passed (b ∷ bs) ys
 passed_one b bs ys e = record { count = 1; left = sym e; within = omega arith }
 
 pub passed_then : {xs ys zs : List ℕ} → Passed xs ys → Passed ys zs → Passed xs zs
-passed_then {xs = xs} {ys = ys} {zs = zs} p q = record {
-  count = p.count + q.count;
-  left = q.left ∙ (ap (drop q.count) p.left ∙ drop_more q.count p.count xs);
-  within = omega (arith, p.within, q.within, ap length p.left, length-drop p.count xs);
-}
+passed_then {xs = xs} {ys = ys} {zs = zs} p q = search (rules, drop_more, length-drop)
 
 pub passed_length : {xs ys : List ℕ} → Passed xs ys → length ys ≤ length xs
 passed_length {xs = xs} p = omega (arith, ap length p.left, length-drop p.count xs)
@@ -74,16 +70,10 @@ pub record LeavesEnd {V : Type 0} (program : Reading V) : Type 0 where
   pub err : (xs : List ℕ) (z : InputError) (ys : List ℕ) → program xs ≡ Err (z, ys) → Passed xs ys
 
 pub give_leaves : {V : Type 0} (v : V) → LeavesEnd (give v)
-give_leaves v = record {
-  ok = λ xs w ys e. passed_none xs ys (same_value (give v xs) refl e).1;
-  err = λ xs z ys e. cc;
-}
+give_leaves v = search (rules, passed_none, same_value)
 
 pub reject_leaves : {V : Type 0} (z : InputError) → LeavesEnd {V = V} (reject z)
-reject_leaves {V} z = record {
-  ok = λ xs w ys e. cc;
-  err = λ xs y ys e. passed_none xs ys (same_input_error (reject {V = V} z xs) refl e).1;
-}
+reject_leaves {V} z = search (rules, passed_none, same_input_error)
 
 pub if_leaves : {V : Type 0} (t : Bool) {f g : Reading V} → LeavesEnd f → LeavesEnd g
     → LeavesEnd (cond t f g)
@@ -127,9 +117,7 @@ number_leaves name expect (suc k) high =
 
 argument_leaves : (name : List ℕ) (width b : ℕ) → LeavesEnd (argument_at name width b)
 argument_leaves name width b =
-    let k = argument_size (b % 32) in
-    if_leaves (ltb (b % 32) 24) (give_leaves (b % 32)) (if_leaves (allowed_info width (b % 32))
-    (number_leaves name k k 0) (reject_leaves (mismatch name b)))
+    search (rules, if_leaves, give_leaves, number_leaves, reject_leaves)
 
 head_by_leaves : (name : List ℕ) (major width b : ℕ) → LeavesEnd (head_by name major width b)
 head_by_leaves name major width b =
@@ -140,8 +128,7 @@ head_leaves name major width = then_leaves (byte_leaves name 1) (head_by_leaves 
 
 length_by_leaves : (name : List ℕ) (major b : ℕ) → LeavesEnd (length_by name major b)
 length_by_leaves name major b =
-    if_leaves (eqb b (indefinite_head major)) (give_leaves None)
-    (then_leaves (head_by_leaves name major 8 b) (λ n. give_leaves (Some n)))
+    search (rules, if_leaves, give_leaves, then_leaves, head_by_leaves)
 
 pub length_leaves : (name : List ℕ) (major : ℕ) → LeavesEnd (length_at name major)
 length_leaves name major = then_leaves (byte_leaves name 1) (length_by_leaves name major)
@@ -161,12 +148,7 @@ some_by : (t : Bool) (name : List ℕ) (major b k : ℕ) (bs ys : List ℕ)
     → head_by name major 8 b bs ≡ Ok (k, ys)
 some_by true name major b k bs ys e =
     let p = same_value (Ok (None, bs)) refl e in let f : None ≡ Some k = p.0 in cc
-some_by false name major b k bs ys e =
-    let g = ok_parts (head_by name major 8 b bs) (λ n. give (Some n)) (Some k) ys e in
-    let p = same_value (Ok (Some g.value, g.rest)) refl g.ended in
-    let f : Some g.value ≡ Some k = p.0 in
-    let q : g.value ≡ k = cc in
-    g.begun ∙ ap₂ (λ (j : ℕ) (zs : List ℕ). Ok (j, zs)) q p.1
+some_by false name major b k bs ys e = search (rules, ok_parts, same_value)
 
 -- a known length is the head's
 pub length_some : (name : List ℕ) (major k : ℕ) (xs ys : List ℕ)
@@ -178,20 +160,14 @@ length_some name major k (b ∷ bs) ys e =
 none_by : (t : Bool) (name : List ℕ) (major b : ℕ) (bs ys : List ℕ) → cond t (give None)
     (head_by name major 8 b >=> λ n. give (Some n)) bs ≡ Ok (None, ys) → (t ≡ true) × (ys ≡ bs)
 none_by true name major b bs ys e = (refl, sym (same_value (Ok (None, bs)) refl e).1)
-none_by false name major b bs ys e =
-    let g = ok_parts (head_by name major 8 b bs) (λ n. give (Some n)) None ys e in
-    let p = same_value (Ok (Some g.value, g.rest)) refl g.ended in
-    let f : Some g.value ≡ None = p.0 in
-    cc
+none_by false name major b bs ys e = search (rules, ok_parts, same_value)
 
 -- an indefinite length is one byte
 pub length_none : (name : List ℕ) (major : ℕ) (xs ys : List ℕ)
     → length_at name major xs ≡ Ok (None, ys)
     → (take 1 xs ≡ indefinite_head major ∷ []) × (ys ≡ drop 1 xs)
 length_none name major [] ys e = cc
-length_none name major (b ∷ bs) ys e =
-    let p = none_by (eqb b (indefinite_head major)) name major b bs ys e in
-    (ap (λ z. z ∷ []) (eqb-true b (indefinite_head major) p.0), p.1)
+length_none name major (b ∷ bs) ys e = search (rules, none_by, eqb-true)
 
 -- ---- content
 
@@ -201,9 +177,7 @@ content_by : (t : Bool) (name : List ℕ) (count : ℕ) (before xs v ys : List �
     (Ok (before ++ take count xs, drop count xs)) ≡ Ok (v, ys)
     → (count ≤ length xs) × (v ≡ before ++ take count xs) × (ys ≡ drop count xs)
 content_by true name count before xs v ys h e = cc
-content_by false name count before xs v ys h e =
-    let p = same_value (Ok (before ++ take count xs, drop count xs)) refl e in
-    (ltb-false (length xs) count h, sym p.0, sym p.1)
+content_by false name count before xs v ys h e = search (rules, same_value, ltb-false)
 
 pub content_inverse : (name : List ℕ) (count : ℕ) (before xs v ys : List ℕ)
     → content_on name count before xs ≡ Ok (v, ys)
@@ -213,9 +187,7 @@ content_inverse name count before xs v ys e =
 
 content_passed : (name : List ℕ) (count : ℕ) (before xs v ys : List ℕ)
     → content_on name count before xs ≡ Ok (v, ys) → Passed xs ys
-content_passed name count before xs v ys e =
-    let i = content_inverse name count before xs v ys e in
-    record { count = count; left = i.2; within = i.0 }
+content_passed name count before xs v ys e = search (rules, content_inverse)
 
 -- ---- breaks
 

@@ -1,6 +1,7 @@
 -- Breaks: what is left to do at one, and what is answered.
+use Rattle.std.proofs.Common.{rules}
 use Rattle.std.proofs.Common.{◌≡◌, ◌≢◌, ℕ, List, [], ◌∷◌, drop, take, Option, Result, Ok, Err, Bool}
-use Rattle.std.proofs.Common.{true, false, refl, sym, ap, ◌∙◌, IfOk, IfErr, eqb, ne_eqb, eq-eqb}
+use Rattle.std.proofs.Common.{true, false, refl, sym, ap, ◌∙◌, IfOk, IfErr, ne_eqb, eq-eqb}
 use Rattle.std.specs.Prelude.{codes}
 use Rattle.cbor4ii_rw.specs.View.{View}
 use Rattle.cbor4ii_rw.specs.declared.error.DecodeError.{DecodeError}
@@ -19,40 +20,22 @@ use Rattle.cbor4ii_items.specs.Laws.Outcome.{same_value}
 broken : (b : ℕ) (xs ys : List ℕ) → b ≡ break → byte_at (codes "break") 1 xs ≡ Ok (b, ys)
     → break_at xs ≡ Ok (true, ys)
 broken b [] ys is e = cc
-broken b (x ∷ xs) ys is e =
-    let p = same_value (byte_at (codes "break") 1 (x ∷ xs)) refl e in
-    let t : eqb x break ≡ true = eq-eqb x break (p.0 ∙ is) in
-    rw t (ap (λ (z : List ℕ). Ok (true, z)) p.1)
+broken b (x ∷ xs) ys is e = search (rules, same_value, eq-eqb)
 
 pub runs_break : {E : Type 0} {b : ℕ} {a c : View} → b ≡ break
     → Runs {E = E} (byte_at (codes "break") 1) a c (Ok b) → Runs {E = E} break_at a c (Ok true)
-runs_break {b = b} is p = record {
-  moves = record { by = p.moves.by; depth = p.moves.depth };
-  answers = λ xs known. let h = p.answers xs known in (h.0, h.1, broken b xs h.0 is h.2);
-}
+runs_break {b = b} is p = search (rules, broken)
 
 -- ---- what is answered
 
 break_found : (budget : Option ℕ) (v : Bool) (xs ys : List ℕ) → break_at xs ≡ Ok (v, ys)
     → Found ReadsBreak budget xs v ys
-break_found budget true xs ys e =
-    let b = break_yes xs ys e in
-    record { count = 1; cost = 0; read = (b.0, refl, refl); fits = fits_zero budget; left = b.1 }
-break_found budget false xs ys e =
-    let b = break_no xs ys e in
-    record {
-      count = 0;
-      cost = 0;
-      read = (b.0, b.1, refl, refl);
-      fits = fits_zero budget;
-      left = b.2;
-    }
+break_found budget true xs ys e = search (rules, break_yes, fits_zero)
+break_found budget false xs ys e = search (rules, break_no, fits_zero)
 
 pub stays : (xs : List ℕ) → xs ≢ [] → (take 1 xs ≡ break ∷ [] → ⊥) → break_at xs ≡ Ok (false, xs)
 stays [] some other = absurd (some refl)
-stays (b ∷ bs) some other =
-    let t : eqb b break ≡ false = ne_eqb b break (λ is. other (ap (λ z. z ∷ []) is)) in
-    rw t refl
+stays (b ∷ bs) some other = search (rules, ne_eqb)
 
 break_read : (xs : List ℕ) (v : Bool) (n c : ℕ) → ReadsBreak xs v n c
     → break_at xs ≡ Ok (v, drop n xs)
@@ -78,12 +61,4 @@ break_rejects (Err e) p = rejects_by RejectsBreak (λ xs z ys f seen. break_reje
 
 pub break_decodes : {E : Type 0} {a b : View} (r : Result Bool (DecodeError E))
     → Runs break_at a b r → IfErr r (λ e. is_out_of_memory e ≡ false) → Decodes break_format a b r
-break_decodes r p memory = record {
-  moves = p.moves;
-  progress = λ some. cc;
-  memory = no_memory r memory;
-  sound = break_sound r p;
-  complete = λ exact. break_complete r p;
-  rejects = λ exact. break_rejects r p;
-  begins = break_rejects r p;
-}
+break_decodes r p memory = search (rules, no_memory, break_sound, break_complete, break_rejects)

@@ -1,7 +1,7 @@
 -- Heads, byte by byte: numbers and how great they can be.
 use Rattle.std.proofs.Common.{◌≡◌, ◌≢◌, ℕ, suc, ◌+◌, ◌-◌, ◌*◌, ◌/◌, ◌^◌, ◌<◌, ◌≤◌, List, Option}
-use Rattle.std.proofs.Common.{Some, Result, Ok, Err, Bool, true, false, refl, ap, arith, eqb}
-use Rattle.std.proofs.Common.{eq-eqb, ne_eqb, cond, leb-true, pow-suc, zero, [], ◌∷◌, length, sym}
+use Rattle.std.proofs.Common.{Some, Result, Ok, Err, Bool, true, false, refl, arith, eqb, rules}
+use Rattle.std.proofs.Common.{eq-eqb, ne_eqb, cond, leb-true, pow-suc, zero, [], ◌∷◌, length}
 use Rattle.std.specs.Prelude.{nat_lt, nat_le}
 use Rattle.std.proofs.Math.Nat.{pow-le-pow_right}
 use Rattle.cbor4ii_rw.specs.View.{View}
@@ -37,12 +37,9 @@ pub number_cut : (name : List ℕ) (expect k high : ℕ) (bs : List ℕ) (z : In
     → number_on name expect k high bs ≡ Err (z, ys)
     → (length bs < k) × (z ≡ eof name (Small expect)) × (ys ≡ [])
 number_cut name expect zero high bs z ys e = cc
-number_cut name expect (suc k) high [] z ys e =
-    let p = same_input_error (byte_at name expect []) refl e in
-    (omega arith, sym p.0, sym p.1)
+number_cut name expect (suc k) high [] z ys e = search (rules, same_input_error)
 number_cut name expect (suc k) high (b ∷ bs) z ys e =
-    let r = number_cut name expect k (high * 256 + b) bs z ys e in
-    (omega (arith, r.0), r.1, r.2)
+    search (rules, (number_cut name expect k (high * 256 + b) bs z ys e))
 
 pub number_start : (name : List ℕ) (k : ℕ) (a : View)
     → Reaches (number_on name k k 0) (number_on name k (k - 0) 0) a a
@@ -84,17 +81,13 @@ runs_head name major width b e p q =
 
 counted : (name : List ℕ) (major b : ℕ) → b ≢ indefinite_head major → b / 32 ≡ major
     → length_by name major b ≡ (argument_at name 8 b >=> λ n. give (Some n))
-counted name major b other e =
-    let t : eqb b (indefinite_head major) ≡ false = ne_eqb b (indefinite_head major) other in
-    rw t (ap (λ f. f >=> λ n. give (Some n)) (this_major name major 8 b e))
+counted name major b other e = search (rules, ne_eqb, this_major)
 
 pub runs_length_err : {E : Type 0} (name : List ℕ) (major b : ℕ) {a m c : View} {e : DecodeError E}
     → b ≢ indefinite_head major → b / 32 ≡ major → Runs {E = E} (byte_at name 1) a m (Ok b)
     → Runs {V = ℕ} (argument_at name 8 b) m c (Err e)
     → Runs {V = Option ℕ} (length_at name major) a c (Err e)
-runs_length_err name major b other is p q =
-    runs_then (length_by name major) p
-    (runs_as (counted name major b other is) (runs_err (λ n. give (Some n)) q))
+runs_length_err name major b other is p q = search (rules, runs_then, runs_as, counted, runs_err)
 
 pub runs_length : {E : Type 0} (name : List ℕ) (major b v : ℕ) {a m c : View} →
     b ≢ indefinite_head major
@@ -102,5 +95,4 @@ pub runs_length : {E : Type 0} (name : List ℕ) (major b v : ℕ) {a m c : View
     → Runs {E = E} (argument_at name 8 b) m c (Ok v)
     → Runs {V = Option ℕ} {E = E} (length_at name major) a c (Ok (Some v))
 runs_length name major b v {c = c} other is p q =
-    runs_then (length_by name major) p (runs_as (counted name major b other is)
-    (runs_then (λ n. give (Some n)) q (runs_give (Some v) c)))
+    search (rules, runs_then, runs_as, counted, runs_give)

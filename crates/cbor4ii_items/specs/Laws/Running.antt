@@ -1,7 +1,7 @@
 -- A call that does what a program does, after another one.
 use Rattle.std.proofs.Common.{◌≡◌, ◌≢◌, ℕ, ◌+◌, ◌<◌, List, [], ◌∷◌, length, get_or, drop, Option}
 use Rattle.std.proofs.Common.{Some, None, Result, Ok, Err, Bool, true, false, refl, sym, ap, ◌∙◌}
-use Rattle.std.proofs.Common.{subst, arith, IfSome}
+use Rattle.std.proofs.Common.{subst, arith, IfSome, rules}
 use Rattle.std.specs.Prelude.{MatchBool, MatchOption}
 use denote.Ref.{Bor}
 use Rattle.cbor4ii_rw.specs.View.{View, IfKnown}
@@ -33,12 +33,7 @@ runs_as {a = a} {b = b} {r = r} e h = subst (λ p. Runs p a b r) (sym e) h
 pub runs_then : {U V E : Type 0} {f : Reading U} (g : U → Reading V) {a m b : View} {u : U}
     {r : Result V (DecodeError E)} → Runs {E = E} f a m (Ok u) → Runs (g u) m b r
     → Runs (f >=> g) a b r
-runs_then {f = f} g {b = b} {u = u} {r = r} p q = record {
-  moves = moves_then p.moves.by q.moves;
-  answers = λ xs known.
-      let h = p.answers xs known in
-      as_of (go_on (f xs) g) (g u h.0) b.known r (ap (λ z. go_on z g) h.2) (q.answers h.0 h.1);
-}
+runs_then {f = f} g {b = b} {u = u} {r = r} p q = search (rules, moves_then, as_of)
 
 pub rejected_then : {U V : Type 0} (o : Option InputError)
     (outcome : Result (U × List ℕ) (InputError × List ℕ)) (g : U → Reading V)
@@ -51,30 +46,15 @@ rejected_then (Some z) outcome g new h = (h.0, h.1, ap (λ r. go_on r g) h.2)
 -- an error of the first call is the answer of both
 pub runs_err : {U V E : Type 0} {f : Reading U} (g : U → Reading V) {a m : View} {e : DecodeError E}
     → Runs {V = U} f a m (Err e) → Runs {V = V} (f >=> g) a m (Err e)
-runs_err {f = f} g {m = m} {e = e} p = record {
-  moves = moves_err p.moves;
-  answers = λ xs known. rejected_then (input_error_of e) (f xs) g m.known (p.answers xs known);
-}
+runs_err {f = f} g {m = m} {e = e} p = search (rules, moves_err, rejected_then)
 
 -- ---- nothing is read
 
 pub kept_alike : (a : View) → Kept a a
-kept_alike a = record {
-  rest = λ xs known. (0, record { left = known; within = omega arith; bytes = tt });
-  counted = counted_none a a (λ xs known. known) refl;
-  bound = omega arith;
-  budget = refl;
-  failures = refl;
-  zero_copy = λ h. h;
-  remembers = λ h. h;
-  ends_at = refl;
-}
+kept_alike a = search (rules, counted_none)
 
 pub runs_give : {V E : Type 0} (v : V) (a : View) → Runs {E = E} (give v) a a (Ok v)
-runs_give v a = record {
-  moves = record { by = kept_alike a; depth = λ e. refl };
-  answers = λ xs known. (xs, known, refl);
-}
+runs_give v a = search (rules, kept_alike)
 
 pub no_failure : (t : Bool) (a b : View) → t ≡ false → Kept a b → MatchBool t (ReaderFailed a b)
     (Kept a b)
@@ -94,10 +74,7 @@ pub runs_rejected : {V E : Type 0} {f : Reading V} {a b : View} {e : DecodeError
     → input_error_of e ≡ Some z → is_read e ≡ false → is_depth_overflow e ≡ false → Kept a b
     → IfKnown a.known (λ xs. (ys : List ℕ) × (b.known ≡ Some ys) × (f xs ≡ Err (z, ys)))
     → Runs f a b (Err e)
-runs_rejected {f = f} {a = a} {b = b} {e = e} z says read shallow kept at = record {
-  moves = record { by = no_failure (is_read e) a b read kept; depth = λ none. shallow };
-  answers = λ xs known. rejected_as (input_error_of e) z (f xs) b.known says (at xs known);
-}
+runs_rejected {f = f} {a = a} {b = b} {e = e} z says read shallow kept at = search rules
 
 -- the error z takes nothing
 pub runs_reject : {V E : Type 0} {e : DecodeError E} (z : InputError) (a : View)
@@ -109,16 +86,7 @@ runs_reject z a says read shallow =
 -- ---- the next byte
 
 pub shows_kept : {shown : List ℕ} {a b : View} → Shows shown a b → Kept a b
-shows_kept {a = a} {b = b} s = record {
-  rest = λ xs known. (0, record { left = s.known xs known; within = omega arith; bytes = tt });
-  counted = counted_none a b s.known s.taken;
-  bound = s.bound;
-  budget = s.budget;
-  failures = s.failures;
-  zero_copy = s.zero_copy;
-  remembers = s.remembers;
-  ends_at = s.ends_at;
-}
+shows_kept {a = a} {b = b} s = search (rules, counted_none)
 
 pub look_shows : (a b : View) (answer : Option (Bor (List ℕ))) (shown : Bor (List ℕ))
     → answer ≡ Some shown → MatchOption answer (ReaderFails a b) (λ s. Shows s.now a b)
@@ -146,24 +114,14 @@ first_is name expect (s ∷ ss) (x ∷ xs) prefix some =
 pub runs_peek : {E : Type 0} (name : List ℕ) (expect : ℕ) {shown : List ℕ} {a b : View}
     → Shows shown a b → IfKnown a.known (IsPrefix 1 shown) → length shown ≢ 0
     → Runs {E = E} (peek_at name expect) a b (Ok (get_or shown 0 0))
-runs_peek name expect {shown = shown} s prefix some = record {
-  moves = record { by = shows_kept s; depth = λ e. refl };
-  answers = λ xs known. (
-    xs,
-    s.known xs known,
-    first_is name expect shown xs
-        (prefix xs known) some,
-  );
-}
+runs_peek name expect {shown = shown} s prefix some = search (rules, shows_kept, first_is)
 
 -- the byte that was peeked
 pub peek_byte : (name : List ℕ) (expect b : ℕ) (xs ys : List ℕ) → peek_at name expect xs ≡ Ok
     (b, ys)
     → (rest : List ℕ) × (xs ≡ b ∷ rest) × (ys ≡ xs)
 peek_byte name expect b [] ys e = cc
-peek_byte name expect b (x ∷ xs) ys e =
-    let p = same_value (peek_at name expect (x ∷ xs)) e refl in
-    (xs, ap (λ z. z ∷ xs) (sym p.0), p.1)
+peek_byte name expect b (x ∷ xs) ys e = search (rules, same_value)
 
 -- the byte that was peeked is taken
 taken : {E : Type 0} (name : List ℕ) (expect b : ℕ) (a m c : View) (xs : List ℕ)
@@ -178,10 +136,7 @@ taken name expect b a m c xs p adv known =
 took_one : (b : ℕ) (xs rest : List ℕ) (new : Option (List ℕ)) → b < 256 → xs ≡ b ∷ rest
     → new ≡ Some rest → Took xs new 1
 took_one b [] rest new h e left = cc
-took_one b (x ∷ xs) rest new h e left =
-    let p : x ≡ b = cc in
-    let q : xs ≡ rest = cc in
-    record { left = left ∙ ap Some (sym q); within = omega arith; bytes = (omega arith, tt) }
+took_one b (x ∷ xs) rest new h e left = search rules
 
 counts_one : {E : Type 0} (name : List ℕ) (expect b : ℕ) (a m c : View) (xs ys : List ℕ)
     → Runs {E = E} (peek_at name expect) a m (Ok b) → Advances 1 m c → a.known ≡ Some xs
@@ -247,12 +202,7 @@ reaches_then k p q = record {
 -- all that is left was done
 pub reaches_end : {V E : Type 0} {f g : Reading V} {a m b : View} {r : Result V (DecodeError E)}
     → Reaches f g a m → Runs g m b r → Runs f a b r
-reaches_end {f = f} {g = g} {b = b} {r = r} p q = record {
-  moves = moves_then p.kept q.moves;
-  answers = λ xs known.
-      let s = p.leads xs known in
-      as_of (f xs) (g s.0) b.known r s.2 (q.answers s.0 s.1);
-}
+reaches_end {f = f} {g = g} {b = b} {r = r} p q = search (rules, moves_then, as_of)
 
 -- a value that only gets another form
 pub runs_mapped : {U V E : Type 0} {f : Reading U} (form : U → V) {a b : View} {u : U}
@@ -262,6 +212,4 @@ runs_mapped form {b = b} {u = u} p = runs_then (λ u. give (form u)) p (runs_giv
 -- the same, where the answer says it in another way
 pub runs_with : {U V E : Type 0} {f : Reading U} (form : U → V) {a b : View} {u : U} {v : V}
     → v ≡ form u → Runs {E = E} f a b (Ok u) → Runs {E = E} (f >=> λ u. give (form u)) a b (Ok v)
-runs_with {V = V} {E = E} {f = f} form {a = a} {b = b} e p =
-    subst (λ (z : V). Runs {E = E} (f >=> λ u. give (form u)) a b (Ok z)) (sym e)
-    (runs_mapped form p)
+runs_with {V = V} {E = E} {f = f} form {a = a} {b = b} e p = search (rules, runs_mapped)

@@ -1,6 +1,6 @@
 -- Items, written one after another.
 use Rattle.std.proofs.Common.{◌≡◌, ℕ, ◌+◌, ◌<◌, List, [], ◌∷◌, ◌++◌, length, get_or, take, drop}
-use Rattle.std.proofs.Common.{Option, Ok, Err, Bool, refl, sym, ap, ◌∙◌, append_assoc, subst}
+use Rattle.std.proofs.Common.{Option, Ok, Err, Bool, refl, sym, ap, ◌∙◌, append_assoc, subst, rules}
 use Rattle.std.proofs.lemmas.List.{append-nil, take_more, take-append-drop}
 use Rattle.std.proofs.Math.Seq.{take-length}
 use Rattle.cbor4ii_rw.specs.Writer.{Output, Appends}
@@ -18,9 +18,7 @@ module _ {V : Type 0} (bytes : V → List ℕ) (vs : List V) where
   items-append : (us ws : List V)
       → items_bytes bytes (us ++ ws) ≡ items_bytes bytes us ++ items_bytes bytes ws
   items-append [] ws = refl
-  items-append (u ∷ us) ws =
-      ap (λ zs. bytes u ++ zs) (items-append us ws)
-      ∙ sym (append_assoc (bytes u) (items_bytes bytes us) (items_bytes bytes ws))
+  items-append (u ∷ us) ws = search (rules, append_assoc, (items-append us ws))
 
   -- one more item
   items-more : (i : ℕ) (v : V) → i < length vs → v ≡ get_or vs i v
@@ -57,6 +55,4 @@ module _ {V : Type 0} (bytes : V → List ℕ) (vs : List V) where
   pub items_all : {E : Type 0} {whole : Bool} (i : ℕ) {a b : Output} → i ≡ length vs
       → Appends (items_bytes bytes (take i vs)) a.written b.written → b.failures ≡ a.failures
       → Writes {T = Unit {0}} {E = E} whole (items_bytes bytes vs) a b (Ok tt)
-  items_all i e p q =
-      writes_as (Ok tt) (ap (items_bytes bytes) (ap (λ j. take j vs) e ∙ take-length vs))
-      (writes_done p q)
+  items_all i e p q = search (rules, writes_as, take-length, writes_done)

@@ -1,55 +1,40 @@
 -- What an array or a map is rejected with has one error, where its parts have.
-use Rattle.std.proofs.Common.{◌≡◌, ℕ, ◌<◌, ◌≤◌, ◌⊎◌, inl, inr, List, [], length, drop, Bool}
-use Rattle.std.proofs.Common.{IsTrue, Option, sym, ap, ◌∙◌, subst, arith}
+use Rattle.std.proofs.Common.{◌≡◌, ℕ, ◌<◌, ◌≤◌, inl, inr, List, length, drop, Bool, IsTrue, Option}
+use Rattle.std.proofs.Common.{sym, ◌∙◌, subst, arith, rules}
 use Rattle.std.specs.Prelude.{codes}
-use Rattle.cbor4ii_items.specs.Budget.{CostFits}
 use Rattle.cbor4ii_items.specs.Decoding.{Reads, RejectsAt, Format, IsLawful}
 use Rattle.cbor4ii_items.specs.InputError.{InputError}
 use Rattle.cbor4ii_items.specs.NeverBoth.{NeverBoth}
 use Rattle.cbor4ii_items.specs.OneError.{OneError, RejectsOnce}
-use Rattle.cbor4ii_items.specs.Sequences.{ReadsElements, Unbroken, RejectsCount, RejectsPlace}
-use Rattle.cbor4ii_items.specs.Sequences.{no_byte, may_read_nothing, part_rejected}
-use Rattle.cbor4ii_items.specs.Sequences.{RejectsUpToBreak, RejectsInside, length_rejected}
-use Rattle.cbor4ii_items.specs.Sequences.{definite_rejected, indefinite_rejected, after_step}
-use Rattle.cbor4ii_items.specs.Sequences.{RejectsSequence, no_step, under_step, RejectsPair}
-use Rattle.cbor4ii_items.specs.Sequences.{inside_of, sequence_format, array_format, pair_format}
-use Rattle.cbor4ii_items.specs.Sequences.{map_format}
+use Rattle.cbor4ii_items.specs.Sequences.{Unbroken, RejectsCount, RejectsPlace, no_byte}
+use Rattle.cbor4ii_items.specs.Sequences.{may_read_nothing, part_rejected, RejectsUpToBreak}
+use Rattle.cbor4ii_items.specs.Sequences.{RejectsInside, length_rejected, definite_rejected}
+use Rattle.cbor4ii_items.specs.Sequences.{indefinite_rejected, after_step, RejectsSequence, no_step}
+use Rattle.cbor4ii_items.specs.Sequences.{under_step, RejectsPair, inside_of, sequence_format}
+use Rattle.cbor4ii_items.specs.Sequences.{array_format, pair_format, map_format}
 use Rattle.cbor4ii_items.specs.Laws.HeadErrors.{head_error}
 use Rattle.cbor4ii_items.specs.Laws.Heads.{head_one}
 use Rattle.cbor4ii_items.specs.Laws.LeavesApart.{head_apart}
 use Rattle.cbor4ii_items.specs.Laws.NumbersOnce.{once_by}
 use Rattle.cbor4ii_items.specs.Laws.Sequences.{next_part, parts_size, unbroken_size, not_less}
 use Rattle.cbor4ii_items.specs.Laws.Sequences.{pair_lawful}
-use Rattle.cbor4ii_items.specs.Laws.SequencesApart.{fits_less, pair_apart, inside_apart}
-use Rattle.cbor4ii_items.specs.Laws.SequencesApart.{sequence_apart}
+use Rattle.cbor4ii_items.specs.Laws.SequencesApart.{fits_less, pair_apart, inside_apart, some_parts}
+use Rattle.cbor4ii_items.specs.Laws.SequencesApart.{no_more_counted, place_apart, sequence_apart}
 use Rattle.cbor4ii_items.specs.Laws.Strings.{head_not_indefinite}
 
 -- ---- parts
 
--- where more parts are read before a break, none may read nothing
-none_empty : {P : Type 0} (never_empty : Bool) (ps : List P) (k : ℕ)
-    → IsTrue never_empty ⊎ (ps ≡ []) → k < length ps → IsTrue never_empty
-none_empty never_empty ps k (inl some) less = some
-none_empty never_empty ps k (inr e) less = absurd (omega (arith, less, ap length e))
-
 module _ {P : Type 0} (reads : Reads P) (rejects : RejectsAt) (apart : NeverBoth reads rejects)
     (once : OneError rejects)
     (size : (xs : List ℕ) (p q : P) (n m c d : ℕ) → reads xs p n c → reads xs q m d → n ≡ m) where
-  -- no more parts are read than before the error
-  no_more_counted : (count : ℕ) (xs : List ℕ) (budget : Option ℕ) (e : InputError) (x : List ℕ)
-      (s : RejectsCount reads rejects count xs budget e x) (ps : List P) (n c : ℕ)
-      → ReadsElements reads xs ps n c → CostFits c budget → length s.whole < length ps → ⊥
-  no_more_counted count xs budget e x s ps n c p fits less =
-      let r = next_part reads size xs s.whole ps s.between s.cost n c s.parts p less in
-      apart (drop s.between xs) budget e x s.stop r.0 r.1 r.2 r.3
-      (fits_less budget r.2 c r.4 fits)
-
   count_error : (count : ℕ) → OneError (RejectsCount reads rejects count)
   count_error count xs budget e f x y s t =
       let most = not_less (length s.whole) (length t.whole) (λ less.
-      no_more_counted count xs budget f y t s.whole s.between s.cost s.parts s.fits less) in
+      no_more_counted reads rejects apart size count xs budget f y t s.whole s.between s.cost
+      s.parts s.fits less) in
       let least = not_less (length t.whole) (length s.whole) (λ less.
-      no_more_counted count xs budget e x s t.whole t.between t.cost t.parts t.fits less) in
+      no_more_counted reads rejects apart size count xs budget e x s t.whole t.between t.cost
+      t.parts t.fits less) in
       let same : s.between ≡ t.between = parts_size reads size xs s.whole t.whole s.between
       t.between s.cost t.cost s.parts t.parts (omega (arith, most, least)) in
       once (drop t.between xs) budget e f x y
@@ -58,15 +43,6 @@ module _ {P : Type 0} (reads : Reads P) (rejects : RejectsAt) (apart : NeverBoth
   module _ (within : (xs : List ℕ) (p : P) (n c : ℕ) → reads xs p n c → n ≤ length xs)
       (never_empty : Bool) (positive : IsTrue never_empty → (xs : List ℕ) (p : P) (n c : ℕ)
       → reads xs p n c → 1 ≤ n) (name : List ℕ) where
-    no_part_read : (xs : List ℕ) (budget : Option ℕ) (e : InputError) (x : List ℕ)
-        → RejectsPlace name rejects never_empty xs budget e x → IsTrue never_empty
-        → (p : P) (n c : ℕ) → reads xs p n c → CostFits c budget → ⊥
-    no_part_read xs budget e x (no_byte is f g) some p n c r fits =
-        absurd (omega (arith, ap length is, within xs p n c r, positive some xs p n c r))
-    no_part_read xs budget e x (may_read_nothing a b is f g) some p n c r fits = cc
-    no_part_read xs budget e x (part_rejected a b is s) some p n c r fits =
-        apart xs budget e x s p n c r fits
-
     place_error : OneError (RejectsPlace name rejects never_empty)
     place_error xs budget e f x y (no_byte is g h) (no_byte o i j) = (g ∙ sym i, h ∙ sym j)
     place_error xs budget e f x y (no_byte is g h) (may_read_nothing some b o i j) =
@@ -87,11 +63,7 @@ module _ {P : Type 0} (reads : Reads P) (rejects : RejectsAt) (apart : NeverBoth
         (t : RejectsUpToBreak name reads rejects never_empty xs budget f y)
         → length s.whole < length t.whole → ⊥
     no_more_unbroken xs budget e f x y s t less =
-        let r = next_part (Unbroken reads) (unbroken_size reads size) xs s.whole t.whole s.between
-        s.cost t.between t.cost s.parts t.parts less in
-        no_part_read (drop s.between xs) budget e x s.stop
-        (none_empty never_empty t.whole (length s.whole) t.allowed less) r.0 r.1 r.2 r.3.1
-        (fits_less budget r.2 t.cost r.4 t.fits)
+        search (rules, next_part, unbroken_size, place_apart, some_parts, fits_less)
 
     until_error : OneError (RejectsUpToBreak name reads rejects never_empty)
     until_error xs budget e f x y s t =
@@ -146,20 +118,10 @@ module _ {P : Type 0} (name : List ℕ) (major : ℕ) (small : major < 8) (s : F
 
   -- parts after their head
   pub inside_once : {W : Type 0} (items : W → List P) → RejectsOnce (inside_of items name major s)
-  inside_once items = record {
-    apart = λ xs budget e x r v. inside_apart s.reads s.rejects once.apart same_size h.within
-        s.never_empty h.positive name major small xs budget e x r (items v);
-    one_error = inside_error s.reads s.rejects once.apart once.one_error same_size h.within
-        s.never_empty h.positive name major small;
-  }
+  inside_once items = search (rules, inside_apart, same_size, inside_error)
 
   pub sequence_once : RejectsOnce (sequence_format name major s)
-  sequence_once = record {
-    apart = λ xs budget e x r v. sequence_apart s.reads s.rejects once.apart same_size h.within
-        s.never_empty h.positive name major small xs budget e x r v.items;
-    one_error = sequence_error s.reads s.rejects once.apart once.one_error same_size h.within
-        s.never_empty h.positive name major small;
-  }
+  sequence_once = search (rules, sequence_apart, same_size, sequence_error)
 
 pub array_once : {V : Type 0} (s : Format V) → IsLawful s → RejectsOnce s
     → RejectsOnce (array_format s)
@@ -181,12 +143,7 @@ module _ {K V : Type 0} (k : Format K) (v : Format V) (g : IsLawful k) (h : IsLa
       (subst (λ i. v.rejects (drop i xs) budget e x) same s.stop) t.stop
 
   pub pair_once : RejectsOnce (pair_format k v)
-  pair_once = record {
-    apart = pair_apart k v k.rejects v.rejects g h key.apart value.apart;
-    one_error = pair_error;
-  }
+  pair_once = search (rules, pair_apart, pair_error)
 
   pub map_once : RejectsOnce (map_format k v)
-  map_once = once_by (λ m. m.0) (sequence_format (codes "map") 5 (pair_format k v))
-      (sequence_once (codes "map") 5 (omega arith) (pair_format k v) (pair_lawful k v g h)
-      pair_once)
+  map_once = search (rules, once_by, sequence_once, pair_lawful, pair_once)

@@ -1,19 +1,17 @@
 -- What a sequence answers, by its head and by the parts after it.
 use Rattle.std.proofs.Common.{◌≡◌, ℕ, ◌+◌, ◌<◌, inl, inr, List, [], ◌∷◌, length, drop, take, Option}
-use Rattle.std.proofs.Common.{Some, None, Ok, Err, Bool, false, refl, sym, ap, ◌∙◌, subst}
+use Rattle.std.proofs.Common.{Some, None, Ok, Err, Bool, false, refl, sym, ap, ◌∙◌, subst, rules}
 use Rattle.cbor4ii_rw.specs.View.{View}
 use Rattle.cbor4ii_rw.specs.declared.error.DecodeError.{DecodeError}
 use Rattle.cbor4ii_items.specs.Head.{indefinite_head}
 use Rattle.cbor4ii_items.specs.Heads.{ReadsHead}
 use Rattle.cbor4ii_items.specs.Decoding.{NoneRead, Format, Decodes, DecodesIf}
 use Rattle.cbor4ii_items.specs.Lengths.{ReadsLength, length_format}
-use Rattle.cbor4ii_items.specs.Sequences.{ReadsElements, definite_rejected, indefinite_rejected}
-use Rattle.cbor4ii_items.specs.Sequences.{length_rejected}
-use Rattle.cbor4ii_items.specs.Sequences.{count_of, indefinite_of, inside_of}
+use Rattle.cbor4ii_items.specs.Sequences.{definite_rejected, indefinite_rejected}
+use Rattle.cbor4ii_items.specs.Sequences.{length_rejected, count_of, indefinite_of, inside_of}
 use Rattle.cbor4ii_items.specs.Laws.Answering.{fits_zero}
 use Rattle.cbor4ii_items.specs.Laws.Calls.{err_after, Leads}
 use Rattle.cbor4ii_items.specs.Laws.Prefixes.{drop_more}
-use Rattle.cbor4ii_items.specs.Laws.Heads.{head_one}
 use Rattle.cbor4ii_items.specs.Laws.Running.{kept_alike}
 use Rattle.cbor4ii_items.specs.Laws.Strings.{head_not_indefinite}
 
@@ -22,16 +20,7 @@ module _ {P W : Type 0} (items : W → List P) (name : List ℕ) (major : ℕ) (
   counted_none : (xs : List ℕ) (count n : ℕ) (budget : Option ℕ) → ReadsHead major 8 xs count n
       → NoneRead (count_of items s count).reads (drop n xs) budget
       → NoneRead (inside_of items name major s).reads xs budget
-  counted_none xs count n budget h none v k c read fits = elim read [
-    | inl r ↦ (let same = head_one major 8 xs (length (items v)) count r.before n small r.head h in
-        none v r.between c (
-          same.1,
-          subst (λ i. ReadsElements s.reads (drop i xs) (items v) r.between c) same.0
-              r.parts,
-        )
-        fits)
-    | inr r ↦ head_not_indefinite major xs count n small h r.begins
-  ]
+  counted_none xs count n budget h none v k c read fits = search rules
 
   opened_none : (xs : List ℕ) (budget : Option ℕ) → take 1 xs ≡ indefinite_head major ∷ []
       → NoneRead (indefinite_of items name s).reads (drop 1 xs) budget

@@ -1,7 +1,7 @@
 -- Parts, read one after another.
 use Rattle.std.proofs.Common.{◌≡◌, ◌≢◌, ℕ, ◌+◌, ◌<◌, ◌≤◌, ◌⊎◌, inl, inr, List, [], ◌∷◌, ◌++◌}
 use Rattle.std.proofs.Common.{length, drop, take, Option, Some, None, Ok, Err, Bool, true, false}
-use Rattle.std.proofs.Common.{IsTrue, refl, sym, ap, ◌∙◌, subst, arith, max, length-append}
+use Rattle.std.proofs.Common.{IsTrue, refl, sym, ap, ◌∙◌, subst, arith, max, length-append, rules}
 use Rattle.std.proofs.Math.Nat.{max-le}
 use Rattle.cbor4ii_rw.specs.View.{View, IfKnown}
 use Rattle.cbor4ii_rw.specs.declared.error.DecodeError.{DecodeError}
@@ -12,14 +12,13 @@ use Rattle.cbor4ii_items.specs.Head.{break}
 use Rattle.cbor4ii_items.specs.InputError.{InputError, is_out_of_memory}
 use Rattle.cbor4ii_items.specs.Moves.{Kept}
 use Rattle.cbor4ii_items.specs.Reading.{Runs}
-use Rattle.cbor4ii_items.specs.Decoding.{Reads, RejectsAt, Sound, NoneRead, Format}
+use Rattle.cbor4ii_items.specs.Decoding.{Reads, RejectsAt, Sound, NoneRead, Format, IsLawful}
+use Rattle.cbor4ii_items.specs.Decoding.{Decodes, DecodesIf}
 use Rattle.cbor4ii_items.specs.Budget.{CostFits}
-use Rattle.cbor4ii_items.specs.Decoding.{IsLawful, Decodes, DecodesIf}
 use Rattle.cbor4ii_items.specs.ReadStrings.{break_at}
 use Rattle.cbor4ii_items.specs.Sequences.{ReadsElements, ReadsCount, Unbroken, ReadsUpToBreak}
 use Rattle.cbor4ii_items.specs.Sequences.{RejectsPlace, no_byte, may_read_nothing, part_rejected}
-use Rattle.cbor4ii_items.specs.Sequences.{RejectsCount, RejectsUpToBreak}
-use Rattle.cbor4ii_items.specs.Sequences.{count_of, indefinite_of}
+use Rattle.cbor4ii_items.specs.Sequences.{RejectsCount, RejectsUpToBreak, count_of, indefinite_of}
 use Rattle.cbor4ii_items.specs.Laws.Answering.{fits_zero}
 use Rattle.cbor4ii_items.specs.Laws.Calls.{ok, err_if, err_of, err_after}
 use Rattle.cbor4ii_items.specs.Laws.Prefixes.{drop_more}
@@ -43,12 +42,7 @@ module _ {P : Type 0} (reads : Reads P) where
   parts_append : (xs : List ℕ) (ps qs : List P) (n c k d : ℕ) → ReadsElements reads xs ps n c
       → ReadsElements reads (drop n xs) qs k d
       → ReadsElements reads xs (ps ++ qs) (n + k) (max c d)
-  parts_append xs [] qs n c k d h r =
-      let size : k ≡ n + k = omega (arith, h.0) in
-      let cost : d ≡ max c d = omega (arith, h.1) in
-      subst (λ j. ReadsElements reads xs qs j (max c d)) size
-      (subst (ReadsElements reads xs qs k) cost
-      (subst (λ j. ReadsElements reads (drop j xs) qs k d) h.0 r))
+  parts_append xs [] qs n c k d h r = search rules
   parts_append xs (q ∷ ps) qs n c k d h r =
       let e : drop n xs ≡ drop h.2 (drop h.0 xs) =
       ap (λ j. drop j xs) h.6 ∙ sym (drop_more h.2 h.0 xs) in
@@ -105,16 +99,7 @@ module _ {P : Type 0} (s : Format P) (lawful : IsLawful s) where
 pub no_part : {P : Type 0} (reads : Reads P) {a m : View} {ps : List P} → m.known ≡ a.known →
     ps ≡ []
     → Sound (ReadsElements reads) a m ps
-no_part reads {a = a} {m = m} same none =
-    subst (λ qs. Sound (ReadsElements reads) a m qs) (sym none) (record {
-      at = λ xs known. record {
-        count = 0;
-        cost = 0;
-        read = (refl, refl);
-        fits = fits_zero a.budget;
-        left = same ∙ known;
-      };
-    })
+no_part reads {a = a} {m = m} same none = search (rules, fits_zero)
 
 -- ---- so many parts
 
@@ -141,9 +126,7 @@ module _ {P : Type 0} (s : Format P) where
       → ReadsElements s.reads xs ps n c → length ps < count → NoneRead s.reads (drop n xs) budget
       → NoneRead (ReadsCount s.reads count) xs budget
   none_more lawful xs ps n c count budget h less none qs m d r fits =
-      let a = next_part s.reads (one_size s lawful) xs ps qs n c m d h r.1
-      (omega (arith, less, r.0)) in
-      none a.0 a.1 a.2 a.3 (fits_less a.2 d budget a.4 fits)
+      search (rules, next_part, one_size, fits_less)
 
 module _ {P W : Type 0} (items : W → List P) (s : Format P) where
   pub count_done : {E : Type 0} {a m : View} {v : W} {i count : ℕ} → Begun s i a m (items v)
@@ -200,13 +183,7 @@ pub record Stands (l m : View) : Type 0 where
 
 pub stands : {E : Type 0} {ended : Bool} {l m : View} → ended ≡ false
     → Runs {E = E} break_at l m (Ok ended) → Stands l m
-stands {ended = ended} is q = record {
-  at = λ xs known.
-      let h = q.answers xs known in
-      let b = break_no xs h.0 (h.2 ∙ ap (λ (t : Bool). Ok (t, h.0)) is) in
-      (h.1 ∙ ap Some b.2, b.0, b.1);
-  kept = q.moves.by;
-}
+stands {ended = ended} is q = search (rules, break_no)
 
 -- a break, or a part, where one of them should come
 abbrev ReadsPlace : {P : Type 0} → Format P → Reads (Option P)
@@ -369,17 +346,7 @@ module _ {P : Type 0} (s : Format P) where
       → s.never_empty ≡ false → Stands l m
       → DecodesIf {E = E} exact (place_format name.now s) l m (Err (RequireLength name
       Indefinite))
-  place_nothing name {l = l} empty stays =
-      err_if (place_format name.now s) (record { by = stays.kept; depth = λ none. refl })
-      (λ out. cc) (λ xs known. let f = stays.at xs known in (
-        xs,
-        f.0,
-        record {
-          none = λ is. not_empty xs l.budget f.2 empty;
-          rejects = may_read_nothing f.1 f.2 empty refl refl;
-          begins = may_read_nothing f.1 f.2 empty refl refl;
-        },
-      ))
+  place_nothing name {l = l} empty stays = search (rules, err_if, not_empty, may_read_nothing)
 
   -- a part is rejected
   pub place_part : {E : Type 0} {exact : Bool} (name : List ℕ) {l m b : View} {e : DecodeError E}

@@ -1,7 +1,7 @@
 -- Arrays and maps are read as their parts are.
 use Rattle.std.proofs.Common.{◌≡◌, ℕ, ◌<◌, ◌≤◌, ◌⊎◌, inl, inr, List, [], ◌∷◌, ◌++◌, length, drop}
 use Rattle.std.proofs.Common.{take, Bool, true, false, IsTrue, refl, sym, ap, ◌∙◌, subst, arith}
-use Rattle.std.proofs.Common.{max}
+use Rattle.std.proofs.Common.{max, rules}
 use Rattle.std.specs.Prelude.{◌||◌, codes}
 use Rattle.std.proofs.lemmas.List.{length-drop}
 use Rattle.cbor4ii_items.specs.Head.{break}
@@ -10,14 +10,12 @@ use Rattle.cbor4ii_items.specs.Laws.Strings.{BeginsWith, head_not_indefinite}
 use Rattle.cbor4ii_items.specs.Laws.Containers.{both, first_kept}
 use Rattle.cbor4ii_items.specs.Laws.Prefixes.{drop_more, two_prefixes, after_prefix}
 use Rattle.cbor4ii_items.specs.Sequences.{ReadsElements, Unbroken, ReadsUpToBreak}
-use Rattle.cbor4ii_items.specs.Sequences.{ReadsDefiniteElements}
-use Rattle.cbor4ii_items.specs.Sequences.{ReadsIndefiniteElements, ReadsInside, ReadsSequence}
-use Rattle.cbor4ii_items.specs.Sequences.{SameElements}
-use Rattle.cbor4ii_items.specs.Sequences.{ReadsPair, SamePair, sequence_format, array_format}
-use Rattle.cbor4ii_items.specs.Sequences.{pair_format, map_format}
+use Rattle.cbor4ii_items.specs.Sequences.{ReadsDefiniteElements, ReadsIndefiniteElements}
+use Rattle.cbor4ii_items.specs.Sequences.{ReadsInside, ReadsSequence, SameElements, ReadsPair}
+use Rattle.cbor4ii_items.specs.Sequences.{SamePair, sequence_format, array_format, pair_format}
+use Rattle.cbor4ii_items.specs.Sequences.{map_format}
 use Rattle.cbor4ii_items.specs.Laws.Lawful.{IsOneReading, IsOneSize, StaysWithin, StandsAlone}
-use Rattle.cbor4ii_items.specs.Laws.Lawful.{head_kept}
-use Rattle.cbor4ii_items.specs.Laws.Lawful.{TakesSome}
+use Rattle.cbor4ii_items.specs.Laws.Lawful.{head_kept, TakesSome}
 use Rattle.cbor4ii_items.specs.Decoding.{Reads, Format, IsLawful}
 use Rattle.cbor4ii_items.specs.Laws.Formats.{lawful_by}
 
@@ -38,13 +36,7 @@ module _ {P : Type 0} (reads : Reads P) where
       → ReadsElements reads xs ps n c → n ≤ length xs
   parts_within within xs [] n c h = omega (arith, h.0)
   parts_within within xs (p ∷ ps) n c h =
-      omega (
-        arith,
-        h.6,
-        within xs p h.0 h.1 h.4,
-        parts_within within (drop h.0 xs) ps h.2 h.3 h.5,
-        length-drop h.0 xs,
-      )
+      search (rules, length-drop, (parts_within within (drop h.0 xs) ps h.2 h.3 h.5))
 
   -- where more parts are read, one is read after the first ones, at no more cost
   pub next_part : IsOneSize reads → (xs : List ℕ) (ps qs : List P) (n c m d : ℕ)
@@ -157,14 +149,7 @@ module _ {P : Type 0} (reads : Reads P) where
   until_within : StaysWithin reads → (never_empty : Bool) (xs : List ℕ) (ps : List P) (n c : ℕ)
       → ReadsUpToBreak reads never_empty xs ps n c → n ≤ length xs
   until_within within never_empty xs ps n c h =
-      omega (
-        arith,
-        h.size,
-        parts_within (Unbroken reads) (unbroken_within within) xs ps h.between c
-            h.parts,
-        one_byte (drop h.between xs) break h.ends,
-        length-drop h.between xs,
-      )
+      search (rules, parts_within, unbroken_within, one_byte, length-drop)
 
   module _ (within : StaysWithin reads)
       (alone : StandsAlone reads)
@@ -172,11 +157,7 @@ module _ {P : Type 0} (reads : Reads P) where
       (positive : IsTrue never_empty → TakesSome reads) where
     unbroken_alone : IsTrue never_empty → (xs ys : List ℕ) (p : P) (n c : ℕ)
         → Unbroken reads xs p n c → Unbroken reads (take n xs ++ ys) p n c
-    unbroken_alone some xs ys p n c h = (
-      λ ends. h.0 (sym (first_kept n xs ys (positive some xs p n c h.1) (within xs p n c h.1))
-          ∙ ends),
-      alone xs ys p n c h.1,
-    )
+    unbroken_alone some xs ys p n c h = search (rules, first_kept)
 
     allowed_alone : (xs ys : List ℕ) (ps : List P) (n c : ℕ) → IsTrue never_empty ⊎ (ps ≡ [])
         → ReadsElements (Unbroken reads) xs ps n c
@@ -244,23 +225,8 @@ module _ {P : Type 0} (major : ℕ) (small : major < 8) (reads : Reads P) (never
 
   inside_within : StaysWithin reads → (xs : List ℕ) (ps : List P) (n c : ℕ)
       → ReadsInside major reads never_empty xs ps n c → n ≤ length xs
-  inside_within within xs ps n c (inl h) =
-      omega (
-        arith,
-        h.size,
-        (head_read [] major 8 xs (length ps) h.before small h.head).1,
-        parts_within reads within (drop h.before xs) ps h.between c h.parts,
-        length-drop h.before xs,
-      )
-  inside_within within xs ps n c (inr h) =
-      omega (
-        arith,
-        h.size,
-        one_byte xs _ h.begins,
-        until_within reads within never_empty
-            (drop 1 xs) ps h.between c h.parts,
-        length-drop 1 xs,
-      )
+  inside_within within xs ps n c (inl h) = search (rules, head_read, parts_within, length-drop)
+  inside_within within xs ps n c (inr h) = search (rules, one_byte, until_within, length-drop)
 
   pub sequence_within : StaysWithin reads → (xs : List ℕ) (ps : List P) (n c : ℕ)
       → ReadsSequence major reads never_empty xs ps n c → n ≤ length xs
@@ -367,28 +333,13 @@ module _ {K V : Type 0} (key_reads : Reads K) (value_reads : Reads V) where
   pub pair_within : StaysWithin key_reads → StaysWithin value_reads
       → (xs : List ℕ) (p : K × V) (n c : ℕ) → ReadsPair key_reads value_reads xs p n c
       → n ≤ length xs
-  pair_within key_within value_within xs p n c h =
-      omega (
-        arith,
-        h.size,
-        key_within xs p.0 h.key_size h.key_cost h.key,
-        value_within
-            (drop h.key_size xs) p.1 h.value_size h.value_cost h.value,
-        length-drop h.key_size xs,
-      )
+  pair_within key_within value_within xs p n c h = search (rules, length-drop)
 
   pub pair_positive : (key_some value_some : Bool) → (IsTrue key_some → TakesSome key_reads)
       → (IsTrue value_some → TakesSome value_reads) → IsTrue (key_some || value_some)
       → (xs : List ℕ) (p : K × V) (n c : ℕ) → ReadsPair key_reads value_reads xs p n c → 1 ≤ n
   pair_positive key_some value_some key_positive value_positive e xs p n c h =
-      elim (either key_some value_some e) [
-        | inl t ↦ omega (arith, h.size, key_positive t xs p.0 h.key_size h.key_cost h.key)
-        | inr t ↦ omega (
-          arith,
-          h.size,
-          value_positive t (drop h.key_size xs) p.1 h.value_size h.value_cost h.value,
-        )
-      ]
+      search (rules, either, inl, inr)
 
   pair_alone : StaysWithin key_reads → StandsAlone key_reads → StandsAlone value_reads
       → (xs ys : List ℕ) (p : K × V) (n c : ℕ) → ReadsPair key_reads value_reads xs p n c
@@ -428,6 +379,4 @@ pair_lawful k v g h = record {
 
 pub map_lawful : {K V : Type 0} (k : Format K) (v : Format V) → IsLawful k → IsLawful v
     → IsLawful (map_format k v)
-map_lawful k v g h =
-    lawful_by (λ m. m.0) (sequence_format (codes "map") 5 (pair_format k v))
-    (sequence_lawful (codes "map") 5 (omega arith) (pair_format k v) (pair_lawful k v g h))
+map_lawful k v g h = search (rules, lawful_by, sequence_lawful, pair_lawful)

@@ -1,13 +1,13 @@
 -- What an array or a map rejects is not read, where its parts' errors are not.
-use Rattle.std.proofs.Common.{◌≡◌, ℕ, ◌+◌, ◌<◌, ◌≤◌, ◌⊎◌, inl, inr, List, [], length, take, drop}
-use Rattle.std.proofs.Common.{Option, Some, None, Bool, IsTrue, sym, ap, ◌∙◌, subst, arith}
+use Rattle.std.proofs.Common.{◌≡◌, ℕ, ◌+◌, ◌<◌, ◌≤◌, ◌⊎◌, inl, inr, List, [], length, drop}
+use Rattle.std.proofs.Common.{Option, Some, None, Bool, IsTrue, sym, ap, subst, arith, rules}
 use Rattle.std.specs.Prelude.{◌||◌, codes}
 use Rattle.cbor4ii_items.specs.Decoding.{Reads, RejectsAt, Format, IsLawful}
 use Rattle.cbor4ii_items.specs.Budget.{CostFits}
 use Rattle.cbor4ii_items.specs.Head.{break}
 use Rattle.cbor4ii_items.specs.NeverBoth.{NeverBoth}
 use Rattle.cbor4ii_items.specs.InputError.{InputError}
-use Rattle.cbor4ii_items.specs.Sequences.{ReadsElements, Unbroken, ReadsUpToBreak, ReadsInside}
+use Rattle.cbor4ii_items.specs.Sequences.{ReadsElements, ReadsUpToBreak, ReadsInside}
 use Rattle.cbor4ii_items.specs.Sequences.{ReadsSequence, RejectsCount, RejectsPlace, no_byte}
 use Rattle.cbor4ii_items.specs.Sequences.{may_read_nothing, part_rejected, RejectsUpToBreak}
 use Rattle.cbor4ii_items.specs.Sequences.{RejectsInside, length_rejected, definite_rejected}
@@ -16,8 +16,8 @@ use Rattle.cbor4ii_items.specs.Sequences.{under_step, ReadsPair, RejectsPair, ar
 use Rattle.cbor4ii_items.specs.Sequences.{map_format}
 use Rattle.cbor4ii_items.specs.Laws.Heads.{head_one}
 use Rattle.cbor4ii_items.specs.Laws.LeavesApart.{head_apart}
-use Rattle.cbor4ii_items.specs.Laws.Sequences.{next_part, parts_size, unbroken_size, ends_at_break}
-use Rattle.cbor4ii_items.specs.Laws.Sequences.{not_less, one_byte, pair_lawful}
+use Rattle.cbor4ii_items.specs.Laws.Sequences.{next_part, parts_size}
+use Rattle.cbor4ii_items.specs.Laws.Sequences.{one_byte, pair_lawful}
 use Rattle.cbor4ii_items.specs.Laws.Strings.{BeginsWith, head_not_indefinite}
 
 -- ---- budgets
@@ -41,27 +41,24 @@ none_left (Some left) d e fits = let zero : left ≡ 0 = cc in absurd (omega (ar
 -- ---- parts
 
 -- where parts are read and a break is not yet due, none may read nothing
-some_parts : {P : Type 0} (never_empty : Bool) (ps : List P) (k : ℕ)
+pub some_parts : {P : Type 0} (never_empty : Bool) (ps : List P) (k : ℕ)
     → IsTrue never_empty ⊎ (ps ≡ []) → k < length ps → IsTrue never_empty
 some_parts never_empty ps k (inl some) less = some
 some_parts never_empty ps k (inr e) less = absurd (omega (arith, less, ap length e))
 
 module _ {P : Type 0} (reads : Reads P) (rejects : RejectsAt) (apart : NeverBoth reads rejects)
     (size : (xs : List ℕ) (p q : P) (n m c d : ℕ) → reads xs p n c → reads xs q m d → n ≡ m) where
-  count_apart : (count : ℕ) (xs : List ℕ) (budget : Option ℕ) (err : InputError) (rest : List ℕ)
-      → RejectsCount reads rejects count xs budget err rest → (ps : List P) (n c : ℕ)
-      → length ps ≡ count → ReadsElements reads xs ps n c → CostFits c budget → ⊥
-  count_apart count xs budget err rest s ps n c e p fits =
-      let r = next_part reads size xs s.whole ps s.between s.cost n c s.parts p
-      (omega (arith, s.fewer, e)) in
-      apart (drop s.between xs) budget err rest s.stop r.0 r.1 r.2 r.3
-      (fits_less budget r.2 c r.4 fits)
+  -- no more parts are read than before the error
+  pub no_more_counted : (count : ℕ) (xs : List ℕ) (budget : Option ℕ) (e : InputError) (x : List ℕ)
+      (s : RejectsCount reads rejects count xs budget e x) (ps : List P) (n c : ℕ)
+      → ReadsElements reads xs ps n c → CostFits c budget → length s.whole < length ps → ⊥
+  no_more_counted count xs budget e x s ps n c p fits less = search (rules, next_part, fits_less)
 
   module _ (within : (xs : List ℕ) (p : P) (n c : ℕ) → reads xs p n c → n ≤ length xs)
       (never_empty : Bool) (positive : IsTrue never_empty → (xs : List ℕ) (p : P) (n c : ℕ)
       → reads xs p n c → 1 ≤ n) (name : List ℕ) where
     -- where a part is read
-    place_apart : (xs : List ℕ) (budget : Option ℕ) (err : InputError) (rest : List ℕ)
+    pub place_apart : (xs : List ℕ) (budget : Option ℕ) (err : InputError) (rest : List ℕ)
         → RejectsPlace name rejects never_empty xs budget err rest → IsTrue never_empty
         → (p : P) (n c : ℕ) → reads xs p n c → CostFits c budget → ⊥
     place_apart xs budget err rest (no_byte e f g) some p n c r fits =
@@ -82,19 +79,7 @@ module _ {P : Type 0} (reads : Reads P) (rejects : RejectsAt) (apart : NeverBoth
         → RejectsUpToBreak name reads rejects never_empty xs budget err rest
         → (ps : List P) (n c : ℕ) → ReadsUpToBreak reads never_empty xs ps n c
         → CostFits c budget → ⊥
-    until_apart xs budget err rest s ps n c p fits =
-        let fewer = ends_at_break reads size xs ps s.whole p.between c s.between s.cost p.parts
-        p.ends s.parts in
-        let most = not_less (length ps) (length s.whole) (λ less.
-        let r = next_part (Unbroken reads) (unbroken_size reads size) xs s.whole ps s.between
-        s.cost p.between c s.parts p.parts less in
-        place_apart (drop s.between xs) budget err rest s.stop
-        (some_parts never_empty ps (length s.whole) p.allowed less) r.0 r.1 r.2 r.3.1
-        (fits_less budget r.2 c r.4 fits)) in
-        let same : s.between ≡ p.between = parts_size (Unbroken reads) (unbroken_size reads size)
-        xs s.whole ps s.between p.between s.cost c s.parts p.parts (omega (arith, fewer, most)) in
-        break_apart (drop s.between xs) budget err rest s.stop
-        (ap (λ j. take 1 (drop j xs)) same ∙ p.ends)
+    until_apart xs budget err rest s ps n c p fits = search (rules, next_part, parts_size)
 
     module _ (major : ℕ) (small : major < 8) where
       pub inside_apart : (xs : List ℕ) (budget : Option ℕ) (err : InputError) (rest : List ℕ)
@@ -106,8 +91,9 @@ module _ {P : Type 0} (reads : Reads P) (rejects : RejectsAt) (apart : NeverBoth
       inside_apart xs budget err rest (length_rejected f s) ps n c (inr p) fits = f p.begins
       inside_apart xs budget err rest (definite_rejected count before h s) ps n c (inl p) fits =
           let same = head_one major 8 xs (length ps) count p.before before small p.head h in
-          count_apart count (drop before xs) budget err rest s ps p.between c same.1
+          no_more_counted count (drop before xs) budget err rest s ps p.between c
           (subst (λ j. ReadsElements reads (drop j xs) ps p.between c) same.0 p.parts) fits
+          (omega (arith, s.fewer, same.1))
       inside_apart xs budget err rest (definite_rejected count before h s) ps n c (inr p) fits =
           head_not_indefinite major xs count before small h p.begins
       inside_apart xs budget err rest (indefinite_rejected b s) ps n c (inl p) fits =
@@ -138,10 +124,9 @@ array_apart s rejects h apart xs budget err rest f v =
 module _ {K V : Type 0} (k : Format K) (v : Format V) (key_rejects value_rejects : RejectsAt)
     (g : IsLawful k) (h : IsLawful v) (key_apart : NeverBoth k.reads key_rejects)
     (value_apart : NeverBoth v.reads value_rejects) where
-  pub pair_apart : NeverBoth (ReadsPair k.reads v.reads) (RejectsPair k.reads key_rejects value_rejects)
-  pair_apart xs budget err rest (inl s) p n c f fits =
-      key_apart xs budget err rest s p.0 f.key_size f.key_cost f.key
-      (fits_less budget f.key_cost c (omega (arith, f.cost)) fits)
+  pub pair_apart : NeverBoth (ReadsPair k.reads v.reads)
+      (RejectsPair k.reads key_rejects value_rejects)
+  pair_apart xs budget err rest (inl s) p n c f fits = search (rules, fits_less)
   pair_apart xs budget err rest (inr s) p n c f fits =
       let same = (g.one xs s.whole p.0 s.size f.key_size s.cost f.key_cost s.key f.key).0 in
       value_apart (drop s.size xs) budget err rest s.stop p.1 f.value_size f.value_cost

@@ -1,10 +1,9 @@
 -- Signed integers are read exactly as they are encoded.
-use Rattle.std.proofs.Common.{◌≡◌, ℕ, ◌+◌, ◌*◌, ◌/◌, ◌<◌, ◌≤◌, List, [], ◌∷◌, ◌++◌, length, drop}
-use Rattle.std.proofs.Common.{take, Ok, true, refl, sym, ap, ◌∙◌, arith, eqb, eq-eqb, ltb, lt-ltb}
+use Rattle.std.proofs.Common.{rules}
+use Rattle.std.proofs.Common.{◌≡◌, ℕ, ◌/◌, ◌<◌, ◌≤◌, List, ◌∷◌, ◌++◌, length, drop}
+use Rattle.std.proofs.Common.{take, Ok, true, refl, sym, ap, ◌∙◌, eqb, eq-eqb, ltb, lt-ltb}
 use Rattle.std.specs.Prelude.{ℤ, pos, negsuc}
-use Rattle.std.specs.Int.{bytes_high_first}
-use Rattle.cbor4ii_items.specs.Head.{byte_count, additional}
-use Rattle.cbor4ii_items.specs.Reading.{peek_at, go_on, ◌>=>◌}
+use Rattle.cbor4ii_items.specs.Reading.{Reading, peek_at, go_on, ◌>=>◌}
 use Rattle.cbor4ii_items.specs.Heads.{ReadsHead}
 use Rattle.cbor4ii_items.specs.ReadNumber.{below, head_below_at, as_positive, as_negative}
 use Rattle.cbor4ii_items.specs.ReadNumber.{signed_by, signed_at}
@@ -22,15 +21,7 @@ pub record StartsWithMajor (major : ℕ) (xs : List ℕ) : Type 0 where
 
 pub starts : (major width : ℕ) (xs : List ℕ) (v n : ℕ) → ReadsHead major width xs v n
     → StartsWithMajor major xs
-starts major width xs v n h =
-    let small : additional h.wide v < 28 = additional-lt v h.wide h.fits in
-    record {
-      first = 32 * major + additional h.wide v;
-      others =
-          bytes_high_first (byte_count h.wide) v ++ h.rest;
-      is = h.is;
-      type = omega (arith, small);
-    }
+starts major width xs v n h = search (rules, additional-lt)
 
 pub peek_first : (name : List ℕ) (b : ℕ) (bs xs : List ℕ) → xs ≡ b ∷ bs
     → peek_at name 1 xs ≡ Ok (b, xs)
@@ -43,9 +34,7 @@ below_again name limit v ys h = let t : ltb v limit ≡ true = lt-ltb v limit h 
 half_again : (name : List ℕ) (major width limit : ℕ) (xs : List ℕ) (v n : ℕ) → major < 8
     → ReadsHead major width xs v n → v < limit
     → head_below_at name major width limit xs ≡ Ok (v, drop n xs)
-half_again name major width limit xs v n m h small =
-    ap (λ z. go_on z (below name limit)) (head_read name major width xs v n m h).0
-    ∙ below_again name limit v (drop n xs) small
+half_again name major width limit xs v n m h small = search (rules, head_read, below_again)
 
 pub signed_positive_by : (name plus minus : List ℕ) (width limit b : ℕ) → b / 32 ≡ 0
     → signed_by name plus minus width limit b ≡ (head_below_at plus 0 width limit >=> as_positive)
@@ -56,55 +45,37 @@ pub signed_negative_by : (name plus minus : List ℕ) (width limit b : ℕ) → 
     → signed_by name plus minus width limit b ≡ (head_below_at minus 1 width limit >=> as_negative)
 signed_negative_by name plus minus width limit b e = let t : b / 32 ≡ 1 = e in rw t refl
 
+-- where a byte comes first, the program that looks at it is the one that the byte chooses
+pub first_says : {V : Type 0} (name : List ℕ) (choose : ℕ → Reading V) (f : Reading V) (b : ℕ)
+    (bs xs : List ℕ) → xs ≡ b ∷ bs → choose b ≡ f → (peek_at name 1 >=> choose) xs ≡ f xs
+first_says name choose f b bs xs is e =
+    ap (λ z. go_on z choose) (peek_first name b bs xs is) ∙ ap (λ p. p xs) e
+
+-- as a head, after which its argument is taken for a value
+pub says_head : {V : Type 0} (program : Reading V) (major width : ℕ) (xs : List ℕ) (v : V)
+    (k n c : ℕ) → major < 8 → ReadsHead major width xs k n → program xs ≡ Ok (v, drop n xs) → c ≡ 0
+    → ReadBy program xs v n c
+says_head program major width xs v k n c m h answer cost = search (rules, head_read)
+
 pub signed_again : (name plus minus : List ℕ) (width limit : ℕ) (xs : List ℕ) (v : ℤ) (n c : ℕ)
     → ReadsSigned width limit xs v n c → ReadBy (signed_at name plus minus width limit) xs v n c
 signed_again name plus minus width limit xs (pos k) n c p =
-    let s = starts 0 width xs k n p.0 in
-    let h = head_read plus 0 width xs k n (omega arith) p.0 in
-    record {
-      answer =
-          ap (λ z. go_on z (signed_by name plus minus width limit))
-          (peek_first name s.first s.others xs s.is)
-          ∙ (ap (λ f. f xs) (signed_positive_by name plus minus width limit s.first s.type)
-          ∙ ap (λ z. go_on z as_positive)
-          (half_again plus 0 width limit xs k n (omega arith) p.0 p.1));
-      within = h.1;
-      positive = h.2;
-      cost = p.2;
-    }
+    search (rules, starts, says_head, first_says, signed_positive_by, half_again)
 signed_again name plus minus width limit xs (negsuc k) n c p =
-    let s = starts 1 width xs k n p.0 in
-    let h = head_read minus 1 width xs k n (omega arith) p.0 in
-    record {
-      answer =
-          ap (λ z. go_on z (signed_by name plus minus width limit))
-          (peek_first name s.first s.others xs s.is)
-          ∙ (ap (λ f. f xs) (signed_negative_by name plus minus width limit s.first s.type)
-          ∙ ap (λ z. go_on z as_negative)
-          (half_again minus 1 width limit xs k n (omega arith) p.0 p.1));
-      within = h.1;
-      positive = h.2;
-      cost = p.2;
-    }
+    search (rules, starts, says_head, first_says, signed_negative_by, half_again)
 
 pub signed_one : (width limit : ℕ) (xs : List ℕ) (v w : ℤ) (n m c d : ℕ)
     → ReadsSigned width limit xs v n c → ReadsSigned width limit xs w m d
     → (n ≡ m) × (c ≡ d) × (v ≡ w)
-signed_one width limit =
-    leaf_one (signed_at [] [] [] width limit) (ReadsSigned width limit)
-    (signed_again [] [] [] width limit)
+signed_one width limit = search (rules, leaf_one, signed_again)
 
 pub signed_within : (width limit : ℕ) (xs : List ℕ) (v : ℤ) (n c : ℕ)
     → ReadsSigned width limit xs v n c → n ≤ length xs
-signed_within width limit =
-    leaf_within (signed_at [] [] [] width limit) (ReadsSigned width limit)
-    (signed_again [] [] [] width limit)
+signed_within width limit = search (rules, leaf_within, signed_again)
 
 pub signed_positive : (width limit : ℕ) (xs : List ℕ) (v : ℤ) (n c : ℕ)
     → ReadsSigned width limit xs v n c → 1 ≤ n
-signed_positive width limit =
-    leaf_positive (signed_at [] [] [] width limit) (ReadsSigned width limit)
-    (signed_again [] [] [] width limit)
+signed_positive width limit = search (rules, leaf_positive, signed_again)
 
 pub signed_alone : (width limit : ℕ) (xs ys : List ℕ) (v : ℤ) (n c : ℕ)
     → ReadsSigned width limit xs v n c → ReadsSigned width limit (take n xs ++ ys) v n c
@@ -113,9 +84,4 @@ signed_alone width limit xs ys (negsuc k) n c p = (head_alone 1 width xs ys k n 
 
 pub signed_lawful : (name plus minus : List ℕ) (width limit : ℕ)
     → IsLawful (signed_format name plus minus width limit)
-signed_lawful name plus minus width limit = record {
-  one = signed_one width limit;
-  within = signed_within width limit;
-  positive = λ some. signed_positive width limit;
-  alone = λ closed. signed_alone width limit;
-}
+signed_lawful name plus minus width limit = search rules

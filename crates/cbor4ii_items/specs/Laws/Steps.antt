@@ -1,7 +1,7 @@
 -- How one call after another leaves the reader.
 use Rattle.std.proofs.Common.{◌≡◌, ℕ, zero, suc, ◌+◌, List, [], ◌∷◌, length, take, drop, Option}
-use Rattle.std.proofs.Common.{None, Some, Result, Ok, Err, Bool, true, false, refl, sym, ap, ◌∙◌}
-use Rattle.std.proofs.Common.{arith}
+use Rattle.std.proofs.Common.{None, Some, Result, Ok, Err, Bool, true, false, refl, ap, ◌∙◌}
+use Rattle.std.proofs.Common.{arith, rules}
 use Rattle.std.specs.Prelude.{MatchBool}
 use Rattle.std.proofs.lemmas.List.{length-drop}
 use Rattle.cbor4ii_rw.specs.View.{View}
@@ -10,7 +10,6 @@ use Rattle.cbor4ii_rw.specs.declared.error.DecodeError.{DecodeError}
 use Rattle.cbor4ii_items.specs.Head.{IsBytes}
 use Rattle.cbor4ii_items.specs.Laws.Prefixes.{drop_more}
 use Rattle.cbor4ii_items.specs.Moves.{Took, Ends, Counted, EndsOrForgets, Kept, ReaderFailed, Moves}
-use Rattle.cbor4ii_items.specs.Moves.{is_failure}
 
 bytes_more : (n m : ℕ) (xs : List ℕ) → IsBytes (take n xs) → IsBytes (take m (drop n xs))
     → IsBytes (take (n + m) xs)
@@ -21,11 +20,7 @@ bytes_more (suc n) m (x ∷ xs) p q =
 
 took_more : (xs : List ℕ) (b c : Option (List ℕ)) (n m : ℕ) → Took xs b n → Took (drop n xs) c m
     → Took xs c (n + m)
-took_more xs b c n m p q = record {
-  left = q.left ∙ ap Some (drop_more m n xs);
-  within = omega (arith, p.within, q.within, length-drop n xs);
-  bytes = bytes_more n m xs p.bytes q.bytes;
-}
+took_more xs b c n m p q = search (rules, drop_more, length-drop, bytes_more)
 
 ends_then : (a b c : Option (List ℕ)) → Ends a b → Ends b c → Ends a c
 ends_then a b c p q xs known =
@@ -51,9 +46,7 @@ counts_more n m k (Some t) sum = let e : (t + n) + m ≡ t + k = omega (arith, s
 -- where no byte is gone, the count stays
 pub counted_none : (a b : View) → ((xs : List ℕ) → a.known ≡ Some xs → b.known ≡ Some xs)
     → b.taken ≡ a.taken → Counted a b
-counted_none a b same stays xs known ys left n gone =
-    let e : xs ≡ ys = let p = same xs known in cc in
-    stays ∙ sym (counts_none n a.taken (omega (arith, gone, ap length e)))
+counted_none a b same stays xs known ys left n gone = search (rules, counts_none)
 
 counted_then : (a b c : View) → Ends a.known b.known → Ends b.known c.known → Counted a b →
     Counted b c
@@ -108,11 +101,7 @@ by_failure false a b c p q = kept_then p q
 -- after a call that kept the reader, another one
 pub moves_then : {V E : Type 0} {r : Result V (DecodeError E)} {a b c : View} → Kept a b
     → Moves b c r → Moves a c r
-moves_then {r = r} {a = a} {b = b} {c = c} p q =
-    record {
-      by = by_failure (is_failure r) a b c p q.by;
-      depth = λ none. q.depth (p.budget ∙ none);
-    }
+moves_then {r = r} {a = a} {b = b} {c = c} p q = search (rules, by_failure)
 
 -- a value of one call, as that of another
 pub moves_ok : {U V E : Type 0} {u : U} {v : V} {a b : View} → Moves {V = U} {E = E} a b (Ok u)

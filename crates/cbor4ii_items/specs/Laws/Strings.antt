@@ -1,11 +1,11 @@
 -- Strings are read exactly as they are encoded.
-use Rattle.std.proofs.Common.{◌≡◌, ◌≢◌, ℕ, zero, suc, ◌+◌, ◌*◌, ◌<◌, ◌≤◌, inl, inr, List, [], ◌∷◌}
+use Rattle.std.proofs.Common.{rules}
+use Rattle.std.proofs.Common.{◌≡◌, ◌≢◌, ℕ, zero, suc, ◌+◌, ◌<◌, ◌≤◌, inl, inr, List, [], ◌∷◌}
 use Rattle.std.proofs.Common.{◌++◌, length, drop, take, Option, None, Some, Ok, true, false, refl}
-use Rattle.std.proofs.Common.{sym, ap, ap₂, ◌∙◌, subst, arith, eqb, eq-eqb, ne_eqb, append_assoc}
-use Rattle.std.specs.Int.{bytes_high_first}
+use Rattle.std.proofs.Common.{sym, ap, ap₂, ◌∙◌, subst, arith, eq-eqb, ne_eqb, append_assoc}
 use Rattle.std.proofs.lemmas.List.{length-drop, append-nil, length-take}
-use Rattle.cbor4ii_items.specs.Head.{byte_count, additional, break, indefinite_head}
-use Rattle.cbor4ii_items.specs.Reading.{give, go_on}
+use Rattle.cbor4ii_items.specs.Head.{break, indefinite_head}
+use Rattle.cbor4ii_items.specs.Reading.{go_on}
 use Rattle.cbor4ii_items.specs.Decoding.{IsLawful}
 use Rattle.cbor4ii_items.specs.Budget.{CostFits}
 use Rattle.cbor4ii_items.specs.Laws.Outcome.{same_value}
@@ -19,9 +19,8 @@ use Rattle.cbor4ii_items.specs.Laws.DefiniteContent.{content_whole}
 use Rattle.cbor4ii_items.specs.Laws.Lawful.{head_kept}
 use Rattle.cbor4ii_items.specs.Laws.Prefixes.{drop_more, two_prefixes, after_prefix, the_prefix}
 use Rattle.cbor4ii_items.specs.Strings.{ReadsDefiniteString, ReadsChunks, joined_content}
-use Rattle.cbor4ii_items.specs.Strings.{chunk_cost}
-use Rattle.cbor4ii_items.specs.Strings.{ReadsIndefiniteString, ReadsString, ReadsAs, ReadsTextAs}
-use Rattle.cbor4ii_items.specs.Strings.{as_format, text_format}
+use Rattle.cbor4ii_items.specs.Strings.{chunk_cost, ReadsIndefiniteString, ReadsString, ReadsAs}
+use Rattle.cbor4ii_items.specs.Strings.{ReadsTextAs, as_format, text_format}
 
 -- ---- the first byte
 
@@ -31,69 +30,39 @@ BeginsWith xs b = take 1 xs ≡ b ∷ []
 
 pub head_first : (major : ℕ) (xs : List ℕ) (v n : ℕ) → major < 8 → ReadsHead major 8 xs v n
     → (b : ℕ) × (bs : List ℕ) × (xs ≡ b ∷ bs) × (b ≢ indefinite_head major) × (b ≢ break)
-head_first major xs v n m h =
-    let small : additional h.wide v < 28 = additional-lt v h.wide h.fits in (
-      32 * major + additional h.wide v,
-      bytes_high_first (byte_count h.wide) v ++ h.rest,
-      h.is,
-      (λ e. omega (arith, small, e)),
-      (λ e. omega (arith, small, e, m)),
-    )
+head_first major xs v n m h = search (rules, additional-lt)
 
 -- a head is neither an indefinite length nor a break
 pub head_not_indefinite : (major : ℕ) (xs : List ℕ) (v n : ℕ) → major < 8 → ReadsHead major 8 xs v n
     → BeginsWith xs (indefinite_head major) → ⊥
-head_not_indefinite major xs v n m h e =
-    let f = head_first major xs v n m h in
-    let first : take 1 xs ≡ f.0 ∷ [] = ap (take 1) f.2 in
-    let same : f.0 ≡ indefinite_head major = cc in
-    f.3 same
+head_not_indefinite major xs v n m h e = search (rules, head_first)
 
 pub head_not_break : (major : ℕ) (xs : List ℕ) (v n : ℕ) → major < 8 → ReadsHead major 8 xs v n
     → BeginsWith xs break → ⊥
-head_not_break major xs v n m h e =
-    let f = head_first major xs v n m h in
-    let first : take 1 xs ≡ f.0 ∷ [] = ap (take 1) f.2 in
-    let same : f.0 ≡ break = cc in
-    f.4 same
+head_not_break major xs v n m h e = search (rules, head_first)
 
 -- ---- lengths
 
 length_by_head : (name : List ℕ) (major v b : ℕ) (bs ys : List ℕ) → b ≢ indefinite_head major
     → head_at name major 8 (b ∷ bs) ≡ Ok (v, ys) → length_at name major (b ∷ bs) ≡ Ok (Some v, ys)
-length_by_head name major v b bs ys other e =
-    let t : eqb b (indefinite_head major) ≡ false = ne_eqb b (indefinite_head major) other in
-    rw t (ap (λ z. go_on z (λ (n : ℕ). give (Some n))) e)
+length_by_head name major v b bs ys other e = search (rules, ne_eqb)
 
 pub length_known : (name : List ℕ) (major : ℕ) (xs : List ℕ) (v n : ℕ) → major < 8
     → ReadsHead major 8 xs v n → length_at name major xs ≡ Ok (Some v, drop n xs)
-length_known name major xs v n m h =
-    let f = head_first major xs v n m h in
-    let e : head_at name major 8 (f.0 ∷ f.1) ≡ Ok (v, drop n xs) =
-    ap (head_at name major 8) (sym f.2) ∙ (head_read name major 8 xs v n m h).0 in
-    ap (length_at name major) f.2 ∙ length_by_head name major v f.0 f.1 (drop n xs) f.3 e
+length_known name major xs v n m h = search (rules, head_first, head_read, length_by_head)
 
 pub length_indefinite : (name : List ℕ) (major : ℕ) (xs : List ℕ) → BeginsWith xs
     (indefinite_head major)
     → length_at name major xs ≡ Ok (None, drop 1 xs)
 length_indefinite name major [] h = cc
-length_indefinite name major (b ∷ bs) h =
-    let is : b ≡ indefinite_head major = cc in
-    let t : eqb b (indefinite_head major) ≡ true = eq-eqb b (indefinite_head major) is in
-    rw t refl
+length_indefinite name major (b ∷ bs) h = search (rules, eq-eqb)
 
 pub break_again : (xs : List ℕ) → BeginsWith xs break → break_at xs ≡ Ok (true, drop 1 xs)
 break_again [] h = cc
-break_again (b ∷ bs) h =
-    let is : b ≡ break = cc in
-    let t : eqb b break ≡ true = eq-eqb b break is in
-    rw t refl
+break_again (b ∷ bs) h = search (rules, eq-eqb)
 
 no_break : (b : ℕ) (bs xs : List ℕ) → xs ≡ b ∷ bs → b ≢ break → break_at xs ≡ Ok (false, xs)
-no_break b bs xs is other =
-    let t : eqb b break ≡ false = ne_eqb b break other in
-    ap break_at is ∙ (let e : break_at (b ∷ bs) ≡ Ok (false, b ∷ bs) = rw t refl in
-    e ∙ ap (λ (z : List ℕ). Ok (false, z)) (sym is))
+no_break b bs xs is other = search (rules, ne_eqb)
 
 -- ---- strings of definite length
 
@@ -102,27 +71,14 @@ fits_content v ys e = omega (arith, ap length e, length-take (length v) ys)
 
 pub definite_within : (major : ℕ) (xs v : List ℕ) (n : ℕ) → major < 8
     → ReadsDefiniteString major xs v n → (n ≤ length xs) × (1 ≤ n)
-definite_within major xs v n m h =
-    let r = head_read [] major 8 xs (length v) h.before m h.head in (
-      omega (
-        arith,
-        h.size,
-        r.1,
-        fits_content v (drop h.before xs) h.stands,
-        length-drop h.before xs,
-      ),
-      omega (arith, h.size, r.2),
-    )
+definite_within major xs v n m h = search (rules, head_read, fits_content, length-drop)
 
 -- the content after its head
 definite_content : (name before : List ℕ) (major : ℕ) (xs v : List ℕ) (n : ℕ)
     → (h : ReadsDefiniteString major xs v n)
     → content_on name (length v) before (drop h.before xs) ≡ Ok (before ++ v, drop n xs)
 definite_content name before major xs v n h =
-    content_whole name (length v) before (drop h.before xs)
-    (fits_content v (drop h.before xs) h.stands)
-    ∙ ap₂ (λ (us ws : List ℕ). Ok (us, ws)) (ap (λ z. before ++ z) h.stands)
-    (drop_more (length v) h.before xs ∙ ap (λ j. drop j xs) (sym h.size))
+    search (rules, content_whole, fits_content, drop_more)
 
 inside_again : (name before : List ℕ) (major : ℕ) (xs v : List ℕ) (n : ℕ) → major < 8
     → ReadsDefiniteString major xs v n
@@ -195,11 +151,7 @@ pub chunks_again : (chunks : List (List ℕ)) (name before : List ℕ) (major : 
 chunks_again [] name before major budget xs n m s h =
     ap₂ (chunks_at name major budget) (sym (append-nil before)) (sym (ap (λ j. drop j xs) h))
 chunks_again (v ∷ vs) name before major budget xs n m s h =
-    let rest = chunks_again vs name (before ++ v) major budget (drop h.0 xs) h.1 m
-    (fewer vs budget s) h.3 in
-    chunks_once name before major budget xs v h.0 m s h.2
-    ∙ (rest ∙ ap₂ (chunks_at name major budget) (append_assoc before v (joined_content vs))
-    (drop_more h.1 h.0 xs ∙ ap (λ j. drop j xs) (sym h.4)))
+    search (rules, fewer, chunks_once, append_assoc, drop_more, (chunks_again vs name (before ++ v) major budget (drop h.0 xs) h.1 m (fewer vs budget s) h.3))
 
 chunks_alone : (chunks : List (List ℕ)) (major : ℕ) (xs ys : List ℕ) (n : ℕ) → major < 8
     → ReadsChunks major chunks xs n → ReadsChunks major chunks (take n xs ++ ys) n
@@ -228,13 +180,7 @@ some_byte b (y ∷ ys) h = omega arith
 
 pub indefinite_within : (major : ℕ) (xs v : List ℕ) (n c : ℕ) → ReadsIndefiniteString major xs v n c
     → n ≤ length xs
-indefinite_within major xs v n c h =
-    omega (
-      arith,
-      h.size,
-      some_byte break (drop (1 + h.between) xs) h.ends,
-      length-drop (1 + h.between) xs,
-    )
+indefinite_within major xs v n c h = search (rules, some_byte, length-drop)
 
 pub indefinite_again : (name : List ℕ) (major : ℕ) (budget : Option ℕ) (xs v : List ℕ) (n c : ℕ)
     → major < 8 → ReadsIndefiniteString major xs v n c → CostFits c budget
@@ -293,12 +239,8 @@ cost_one : (vs ws : List (List ℕ)) (major : ℕ) (xs : List ℕ) (j k : ℕ) �
     → ReadsChunks major vs xs j → BeginsWith (drop j xs) break → ReadsChunks major ws xs k
     → BeginsWith (drop k xs) break → chunk_cost vs ≡ chunk_cost ws
 cost_one [] [] major xs j k m p a q b = refl
-cost_one [] (w ∷ ws) major xs j k m p a q b =
-    absurd (head_not_break major xs (length w) q.2.before m q.2.head
-    (ap (λ i. take 1 (drop i xs)) (sym p) ∙ a))
-cost_one (v ∷ vs) [] major xs j k m p a q b =
-    absurd (head_not_break major xs (length v) p.2.before m p.2.head
-    (ap (λ i. take 1 (drop i xs)) (sym q) ∙ b))
+cost_one [] (w ∷ ws) major xs j k m p a q b = search (rules, head_not_break)
+cost_one (v ∷ vs) [] major xs j k m p a q b = search (rules, head_not_break)
 cost_one (v ∷ vs) (w ∷ ws) major xs j k m p a q b = refl
 
 -- ---- strings
@@ -405,9 +347,4 @@ as_lawful name major small content = record {
 
 pub text_lawful : {V : Type 0} (name : List ℕ) (content : V → List ℕ)
     → IsLawful (text_format name content)
-text_lawful name content = record {
-  one = text_one content;
-  within = text_within content;
-  positive = λ some. text_positive content;
-  alone = λ closed. text_alone content;
-}
+text_lawful name content = search (rules, text_one, text_within, text_positive, text_alone)

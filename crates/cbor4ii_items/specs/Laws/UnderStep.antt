@@ -1,23 +1,19 @@
 -- A call under one step.
 use Rattle.std.proofs.Common.{◌≡◌, ℕ, ◌+◌, ◌-◌, ◌<◌, ◌^◌, Option, None, Some, Result, Bool, true}
-use Rattle.std.proofs.Common.{false, IsTrue, refl, sym, ap, ◌∙◌, subst, arith, ltb, lt-ltb, inl}
-use Rattle.std.proofs.Common.{inr, ◌≢◌, ◌≤◌}
+use Rattle.std.proofs.Common.{false, IsTrue, sym, ap, ◌∙◌, subst, arith, lt-ltb, inl}
+use Rattle.std.proofs.Common.{inr, ◌≢◌, ◌≤◌, rules}
 use Rattle.std.specs.Prelude.{MatchBool}
 use Rattle.cbor4ii_rw.specs.View.{View}
-use Rattle.cbor4ii_rw.specs.Reader.{Failed, KeepsAllButBudget, StepsIn, step_back, counts}
+use Rattle.cbor4ii_rw.specs.Reader.{KeepsAllButBudget, StepsIn, step_back}
 use Rattle.cbor4ii_rw.specs.declared.error.DecodeError.{DecodeError}
-use Rattle.cbor4ii_items.specs.Moves.{Kept, ReaderFailed, is_failure, Moves}
-use Rattle.cbor4ii_items.specs.Reading.{Reading, AnswersAs, Runs}
+use Rattle.cbor4ii_items.specs.Moves.{Kept, ReaderFailed, Moves}
+use Rattle.cbor4ii_items.specs.Reading.{Reading, Runs}
 use Rattle.cbor4ii_items.specs.Decoding.{IsExact}
 use Rattle.cbor4ii_items.specs.Budget.{CostFits}
 use Rattle.cbor4ii_items.specs.Sequences.{after_step}
 
 again : (left : ℕ) → 0 < left → left < 2 ^ 64 → step_back (Some (left - 1)) ≡ Some left
-again left some most =
-    let t : ltb (left - 1) (2 ^ 64 - 1) ≡ true =
-    lt-ltb (left - 1) (2 ^ 64 - 1) (omega (arith, some, most)) in
-    let e : left - 1 + 1 ≡ left = omega (arith, some) in
-    rw (t, e) refl
+again left some most = search (rules, lt-ltb)
 
 pub step_again : (old new : Option ℕ) → StepsIn old new true → step_back new ≡ old
 step_again None new h = ap step_back h
@@ -50,37 +46,10 @@ no_step (Some left) new h = let e : left ≡ 0 = h.0 in (ap Some e, h.1 ∙ ap S
 
 module _ {a b c d : View} (i : KeepsAllButBudget a b) (o : KeepsAllButBudget c d) where
   kept_around : (c.budget ≡ b.budget → d.budget ≡ a.budget) → Kept b c → Kept a d
-  kept_around same k = record {
-    rest = λ xs known. let u = k.rest xs (i.known ∙ known) in
-        (u.0, record { left = o.known ∙ u.1.left; within = u.1.within; bytes = u.1.bytes });
-    counted = λ xs known ys left n gone. o.taken
-        ∙ (k.counted xs (i.known ∙ known) ys (sym o.known ∙ left) n gone ∙ ap (counts n) i.taken);
-    bound = omega (arith, k.bound, i.bound, o.bound);
-    budget = same k.budget;
-    failures = o.failures ∙ (k.failures ∙ i.failures);
-    zero_copy =
-        λ h. subst IsTrue (sym o.zero_copy) (k.zero_copy (subst IsTrue (sym i.zero_copy) h));
-    remembers =
-        λ h. subst IsTrue (sym o.remembers) (k.remembers (subst IsTrue (sym i.remembers) h));
-    ends_at = o.ends_at ∙ (k.ends_at ∙ i.ends_at);
-  }
+  kept_around same k = search rules
 
   broke_around : (c.budget ≡ b.budget → d.budget ≡ a.budget) → ReaderFailed b c → ReaderFailed a d
-  broke_around same k = record {
-    rest = λ xs known ys left. k.rest xs (i.known ∙ known) ys (sym o.known ∙ left);
-    left = λ is xs known. let u = k.left (subst IsTrue (sym i.remembers) is) xs (i.known ∙ known) in
-        (u.0, record { left = o.known ∙ u.1.left; within = u.1.within; bytes = u.1.bytes });
-    bound = omega (arith, k.bound, i.bound, o.bound);
-    budget = same k.budget;
-    failures =
-        subst (λ n. Failed n d.failures) i.failures
-        (subst (λ n. Failed b.failures n) (sym o.failures) k.failures);
-    zero_copy =
-        λ h. subst IsTrue (sym o.zero_copy) (k.zero_copy (subst IsTrue (sym i.zero_copy) h));
-    remembers =
-        λ h. subst IsTrue (sym o.remembers) (k.remembers (subst IsTrue (sym i.remembers) h));
-    ends_at = o.ends_at ∙ (k.ends_at ∙ i.ends_at);
-  }
+  broke_around same k = search rules
 
   pub moves_around : (t : Bool) → (c.budget ≡ b.budget → d.budget ≡ a.budget)
       → MatchBool t (ReaderFailed b c) (Kept b c) → MatchBool t (ReaderFailed a d) (Kept a d)
@@ -90,14 +59,7 @@ module _ {a b c d : View} (i : KeepsAllButBudget a b) (o : KeepsAllButBudget c d
   pub runs_around : {V E : Type 0} {p : Reading V} {r : Result V (DecodeError E)}
       → (a.budget ≡ None → b.budget ≡ None) → (c.budget ≡ b.budget → d.budget ≡ a.budget)
       → Runs p b c r → Runs p a d r
-  runs_around {p = p} {r = r} inner same f = record {
-    moves = record {
-      by = moves_around (is_failure r) same f.moves.by;
-      depth = λ none. f.moves.depth (inner none);
-    };
-    answers = λ xs known. subst (λ new. AnswersAs (p xs) new r) (sym o.known)
-        (f.answers xs (i.known ∙ known));
-  }
+  runs_around {p = p} {r = r} inner same f = search (rules, moves_around)
 
 -- acceptance stays exact
 pub exact_step : (owned : Bool) (a b : View) → KeepsAllButBudget a b → IsExact owned a
@@ -111,8 +73,4 @@ pub moves_stepped : {V E : Type 0} (r : Result V (DecodeError E)) (a b c d : Vie
     → StepsIn a.budget b.budget true → KeepsAllButBudget a b → Moves b c r
     → d.budget ≡ step_back c.budget → KeepsAllButBudget c d → Moves a d r
 moves_stepped r a b c d takes inward m gives outward =
-    record {
-      by = moves_around inward outward (is_failure r)
-          (λ same. gives ∙ (ap step_back same ∙ step_again a.budget b.budget takes)) m.by;
-      depth = λ none. m.depth (step_unbound a.budget b.budget takes none);
-    }
+    search (rules, moves_around, step_again, step_unbound)

@@ -1,7 +1,7 @@
 -- An input that is read as one item.
-use Rattle.std.proofs.Common.{◌≡◌, ℕ, ◌+◌, ◌≤◌, ◌^◌, ◌<◌, inl, inr, List, length, drop, Option}
-use Rattle.std.proofs.Common.{Some, None, Result, Ok, Err, Bool, true, sym, subst, ap, ◌∙◌, ◌-◌}
-use Rattle.std.proofs.Common.{arith}
+use Rattle.std.proofs.Common.{◌≡◌, ℕ, ◌+◌, ◌≤◌, inl, inr, List, length, drop, Option}
+use Rattle.std.proofs.Common.{Some, None, Result, Ok, Err, Bool, true, subst, ap, ◌∙◌, ◌-◌}
+use Rattle.std.proofs.Common.{arith, rules}
 use Rattle.std.specs.Result.{IsErrAnd}
 use Rattle.std.proofs.lemmas.List.{length-drop}
 use Rattle.std.specs.Prelude.{IfSome, MatchBool, false}
@@ -11,24 +11,18 @@ use Rattle.cbor4ii_rw.specs.declared.error.DecodeError.{DecodeError}
 use Rattle.cbor4ii_rw.specs.declared.error.WholeError.{WholeError}
 use Rattle.cbor4ii_rw.specs.declared.error.WholeError.TheVariants.{Decode, Trailing}
 use Rattle.cbor4ii_items.specs.InputError.{InputError, input_error_of}
-use Rattle.cbor4ii_items.specs.Decoding.{Reads, Format, IsLawful, Sound, NoneRead}
+use Rattle.cbor4ii_items.specs.Decoding.{Reads, Format, IsLawful, Sound, NoneRead, IsExact, Decodes}
+use Rattle.cbor4ii_items.specs.Decoding.{RejectsAt}
 use Rattle.cbor4ii_items.specs.Budget.{CostFits}
-use Rattle.cbor4ii_items.specs.Decoding.{IsExact}
-use Rattle.cbor4ii_items.specs.Decoding.{Decodes, RejectsAt}
-use Rattle.cbor4ii_items.specs.Whole.{IsWhole, NoneIsWhole, Trails, IsSure, NotBegun}
-use Rattle.cbor4ii_items.specs.Whole.{ReadsToTheEnd, DecodesWhole, IfDecode, IfTrailing, StopsAt}
+use Rattle.cbor4ii_items.specs.Whole.{IsWhole, NoneIsWhole, Trails, IsSure, NotBegun, ReadsToTheEnd}
+use Rattle.cbor4ii_items.specs.Whole.{DecodesWhole, StopsAt}
 use Rattle.cbor4ii_items.specs.Moves.{Kept, ReaderFailed}
 
 -- a type is exact over a reader that lends all of the input
 pub sure_is_exact : (owned : Bool) (a : View) (bytes : List ℕ) → a.known ≡ Some bytes
     → a.zero_copy ≡ true → IsSure owned bytes → IsExact owned a
 sure_is_exact owned a bytes known lends (inl is) = inl is
-sure_is_exact owned a bytes known lends (inr short) =
-    inr (
-      lends,
-      λ xs e. let same : xs ≡ bytes = cc in
-          subst (λ ys. length ys < 2 ^ 64) (sym same) short,
-    )
+sure_is_exact owned a bytes known lends (inr short) = search (rules, inr)
 
 at_rest : (rejects : RejectsAt) (o : Option InputError) (left : Option (List ℕ)) (bytes : List ℕ)
     (budget : Option ℕ) → budget ≡ Some limit
@@ -68,21 +62,14 @@ module _ {V : Type 0} (format : Format V) (lawful : IsLawful format) (bytes : Li
       omega (arith, one.0, t.1.4, t.1.5)
 
   pub whole_of : (v : V) → ReadsToTheEnd format.reads bytes v → IsWhole format.reads bytes v
-  whole_of v r =
-      let all : r.0 ≡ length bytes = omega (arith, lawful.within bytes v r.0 r.1 r.2, r.4) in
-      (r.1, subst (λ n. format.reads bytes v n r.1) all r.2, r.3)
+  whole_of v r = search rules
 
 module _ {V : Type 0} (format : Format V) (lawful : IsLawful format) (bytes : List ℕ) (a b : View)
     (known : a.known ≡ Some bytes) (budget : a.budget ≡ Some limit) (v : V) (left : ℕ)
     (sound : Sound format.reads a b v) (counts : IfKnown b.known (λ xs. left ≡ length xs)) where
   -- the value is accepted
   pub accepted : {E : Type 0} → left ≤ 0 → DecodesWhole {E = E} format bytes (Ok v)
-  accepted none = record {
-    accepts = whole_of format lawful bytes v
-        (to_the_end format.reads bytes a b known budget v left sound counts none);
-    trailing = tt;
-    rejects = tt;
-  }
+  accepted none = search (rules, whole_of, to_the_end)
 
   -- bytes follow the value
   pub followed : {E : Type 0} → 1 ≤ left → DecodesWhole {E = E} format bytes (Err (Trailing left))
@@ -115,12 +102,7 @@ module _ {V : Type 0} (format : Format V) (bytes : List ℕ) (a b : View)
       → Decodes format a b (Err e) → (r : Result V (WholeError (DecodeError E)))
       → IsErrAnd r (λ w. w ≡ Decode e) → DecodesWhole format bytes r
   rejected lends e d (Ok v) is = absurd is
-  rejected lends e d (Err w) is = record {
-    accepts = tt;
-    trailing = subst (λ w. IfTrailing w
-        (λ left. Trails format.reads bytes left × NoneIsWhole format.reads bytes)) (sym is) tt;
-    rejects = subst (λ w. IfDecode w (NotBegun format bytes)) (sym is) (not_begun lends e d);
-  }
+  rejected lends e d (Err w) is = search (rules, not_begun)
 
 -- no more is left than was there
 no_longer : (failed : Bool) (a b : View) → MatchBool failed (ReaderFailed a b) (Kept a b)
@@ -128,10 +110,7 @@ no_longer : (failed : Bool) (a b : View) → MatchBool failed (ReaderFailed a b)
 no_longer true a b h = λ xs before ys after.
     let p = h.rest xs before ys after in
     omega (arith, ap length p.1, length-drop p.0 xs)
-no_longer false a b h = λ xs before ys after.
-    let p = h.rest xs before in
-    let same : ys ≡ drop p.0 xs = let both = p.1.left in cc in
-    omega (arith, ap length same, length-drop p.0 xs)
+no_longer false a b h = search (rules, length-drop)
 
 -- where what an error leaves begins
 begins_at : (rejects : RejectsAt) (o : Option InputError) (bytes : List ℕ)
@@ -142,22 +121,14 @@ begins_at : (rejects : RejectsAt) (o : Option InputError) (bytes : List ℕ)
     → IfSome o (λ err. (rest : List ℕ) × rejects bytes (Some limit) err rest
     × (at + length rest ≡ length bytes))
 begins_at rejects None bytes known budget left at taken is counts few h = tt
-begins_at rejects (Some err) bytes known budget left at taken is counts few h = (
-  h.0,
-  subst (λ k. rejects bytes k err h.0) is h.2,
-  omega (arith, counts h.0 h.1, few h.0 h.1, taken),
-)
+begins_at rejects (Some err) bytes known budget left at taken is counts few h = search rules
 
 module _ {E : Type 0} (error_of : E → Option InputError) (rejects : RejectsAt) (bytes : List ℕ)
     (all left at : ℕ) (taken : at ≡ all - left) (whole : all ≡ length bytes) where
   -- the byte after a value
   pub stops_after : {V : Type 0} (reads : Reads V) → Trails reads bytes left
       → StopsAt error_of rejects bytes (record { at = at; error = Trailing left })
-  stops_after reads t = record {
-    within = omega (arith, taken, whole);
-    trailing = omega (arith, taken, whole, t.1.4);
-    leaves = tt;
-  }
+  stops_after reads t = search rules
 
   -- the byte of an error of reading
   pub stops_before : (failed : Bool) (a b : View) → a.known ≡ Some bytes → a.budget ≡ Some limit

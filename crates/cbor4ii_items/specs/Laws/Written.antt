@@ -1,6 +1,6 @@
 -- One push after another.
-use Rattle.std.proofs.Common.{◌≡◌, ℕ, ◌≤◌, List, ◌++◌, length, take, Option, Some, Result, Ok, Err}
-use Rattle.std.proofs.Common.{Bool, ap, ◌∙◌, append_assoc, subst, length-append, arith, inr}
+use Rattle.std.proofs.Common.{◌≡◌, ℕ, List, ◌++◌, Option, Some, Result, Ok, Err}
+use Rattle.std.proofs.Common.{Bool, ap, ◌∙◌, append_assoc, subst, length-append, inr, rules}
 use Rattle.std.specs.Io.{StartsWith}
 use Rattle.std.proofs.Math.Seq.{take-append-add}
 use Rattle.std.proofs.lemmas.List.{take-append-le, length-take}
@@ -15,9 +15,7 @@ appends_then xs ys a m b p q held known =
 
 pub starts_then : (xs ys prefix : List ℕ) → StartsWith ys prefix → StartsWith (xs ++ ys)
     (xs ++ prefix)
-starts_then xs ys prefix h =
-    ap (λ n. take n (xs ++ ys)) (length-append xs prefix)
-    ∙ (take-append-add xs ys (length prefix) ∙ ap (λ z. xs ++ z) h)
+starts_then xs ys prefix h = search (rules, length-append, take-append-add)
 
 prefix_then : (xs ys : List ℕ) (a m b : Option (List ℕ)) → Appends xs a m → AppendsPrefix ys m b
     → AppendsPrefix (xs ++ ys) a b
@@ -29,12 +27,7 @@ prefix_then xs ys a m b p q held known =
 pub writes_then : {T U E : Type 0} {whole : Bool} {xs ys : List ℕ} {a m b : Output} {t : T}
     (r : Result U E) → Writes {E = E} whole xs a m (Ok t) → Writes whole ys m b r
     → Writes whole (xs ++ ys) a b r
-writes_then {xs = xs} {ys = ys} {a = a} {m = m} {b = b} (Ok u) p q = record {
-  appends = appends_then xs ys a.written m.written b.written p.appends q.appends;
-  counts = q.counts ∙ p.counts;
-  failed = tt;
-  prefix = λ whole. tt;
-}
+writes_then {xs = xs} {ys = ys} {a = a} {m = m} {b = b} (Ok u) p q = search (rules, appends_then)
 writes_then {xs = xs} {ys = ys} {a = a} {m = m} {b = b} (Err e) p q = record {
   appends = tt;
   counts = tt;
@@ -43,22 +36,12 @@ writes_then {xs = xs} {ys = ys} {a = a} {m = m} {b = b} (Err e) p q = record {
 }
 
 pub starts_more : (xs ys prefix : List ℕ) → StartsWith xs prefix → StartsWith (xs ++ ys) prefix
-starts_more xs ys prefix h =
-    let long : length prefix ≤ length xs =
-    omega (arith, ap length h, length-take (length prefix) xs) in
-    take-append-le (length prefix) xs ys long ∙ h
+starts_more xs ys prefix h = search (rules, length-take, take-append-le)
 
 -- where the first call fails, there is no other
 pub writes_err : {T U E : Type 0} {whole : Bool} {xs : List ℕ} (ys : List ℕ) {a b : Output} {e : E}
     → Writes {T = T} whole xs a b (Err e) → Writes {T = U} whole (xs ++ ys) a b (Err e)
-writes_err {xs = xs} ys p = record {
-  appends = tt;
-  counts = tt;
-  failed = p.failed;
-  prefix =
-      λ whole held known. let f =
-      p.prefix whole held known in (f.0, starts_more xs ys f.0 f.1, f.2);
-}
+writes_err {xs = xs} ys p = search (rules, starts_more)
 
 pub writes_as : {T E : Type 0} {whole : Bool} {xs ys : List ℕ} {a b : Output} (r : Result T E)
     → xs ≡ ys → Writes whole xs a b r → Writes whole ys a b r

@@ -3,11 +3,10 @@
 -- A type that holds values of its own kind says by a fold what is written for it, with what is
 -- written for each value inside in that value's place. `values_inside` is what joins the two.
 use Rattle.std.proofs.Common.{◌≡◌, ◌⊎◌, inl, inr, List, [], ◌∷◌, length, map, Option, None, Some}
-use Rattle.std.proofs.Common.{refl, ap, ◌∙◌}
+use Rattle.std.proofs.Common.{refl, ap, rules}
 use Rattle.std.proofs.lemmas.List.{length-map}
 use Rattle.cbor4ii_items.specs.Numbers.{shortest_head}
 use Rattle.cbor4ii_ser.specs.Item.{Encoding, encoded, one_then, each_encoding, array_encoding}
-use Rattle.cbor4ii_ser.specs.Item.{pair_encoding}
 use Rattle.cbor4ii_ser.specs.Item.{map_encoding, option_encoding}
 
 each_mapped : {U V : Type 0} (f : U → V) (item : V → Encoding) (us : List U)
@@ -18,22 +17,14 @@ each_mapped f item (u ∷ us) = ap (one_then (item (f u))) (each_mapped f item u
 -- the values of an array
 pub array_mapped : {U V : Type 0} (f : U → V) (item : V → Encoding) (us : List U)
     → array_encoding item (map f us) ≡ array_encoding (λ u. item (f u)) us
-array_mapped f item us =
-    ap (λ n. one_then (encoded (shortest_head 4 n)) (each_encoding item (map f us)))
-    (length-map us f)
-    ∙ ap (one_then (encoded (shortest_head 4 (length us)))) (each_mapped f item us)
+array_mapped f item us = search (rules, length-map, each_mapped)
 
 -- the pairs of a map
 pub map_mapped : {K V L U : Type 0} (f : K × V → L × U) (key : L → Encoding) (value : U → Encoding)
     (es : List (K × V)) → map_encoding key value (map f es)
     ≡ one_then (encoded (shortest_head 5 (length es)))
     (each_encoding (λ e. one_then (key (f e).0) (value (f e).1)) es)
-map_mapped f key value es =
-    ap (λ n. one_then (encoded (shortest_head 5 n)) (each_encoding (pair_encoding key value)
-    (map f es)))
-    (length-map es f)
-    ∙ ap (one_then (encoded (shortest_head 5 (length es))))
-    (each_mapped f (pair_encoding key value) es)
+map_mapped f key value es = search (rules, length-map, each_mapped)
 
 -- the value that an option holds
 pub option_cases : {V : Type 0} (item : V → Encoding) (o : Option V)

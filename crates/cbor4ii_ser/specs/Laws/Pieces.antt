@@ -1,7 +1,7 @@
 -- Pieces, one after another.
 use Rattle.std.proofs.Common.{◌≡◌, ℕ, List, [], ◌∷◌, ◌++◌, Option, None, Some, Ok, Err, Bool, true}
 use Rattle.std.proofs.Common.{false, refl, sym, ap, ◌∙◌, append_assoc, subst, ◌⊎◌, inl, inr, IsSome}
-use Rattle.std.proofs.Common.{if◌then◌else◌}
+use Rattle.std.proofs.Common.{if◌then◌else◌, rules}
 use Rattle.std.proofs.lemmas.List.{append-nil}
 use Rattle.cbor4ii_rw.specs.Writer.{Output}
 use Rattle.cbor4ii_items.specs.Writing.{Writes}
@@ -21,11 +21,7 @@ pub written_append : (p : Pending) (ps qs : List (List ℕ))
 unfolding pieces_bytes after
 written_append p [] qs = refl
 written_append p (a ∷ ps) qs =
-    ap (λ z. piece_bytes (piece_fits_after p a) p a ++ z)
-    (written_append (piece_pending (piece_fits_after p a) p a) ps qs)
-    ∙ sym (append_assoc (piece_bytes (piece_fits_after p a) p a)
-    (pieces_bytes (piece_pending (piece_fits_after p a) p a) ps)
-    (pieces_bytes (after (piece_pending (piece_fits_after p a) p a) ps) qs))
+    search (rules, append_assoc, (written_append (piece_pending (piece_fits_after p a) p a) ps qs))
 
 written_one : (p : Pending) (a : List ℕ) → pieces_bytes p (a ∷ []) ≡ piece_bytes
     (piece_fits_after p a) p
@@ -55,11 +51,9 @@ writes_on {E = E} {whole = whole} ps qs p q o m n (Some e) g first is second sta
 
 pends_on : {E : Type 0} (ps qs : List (List ℕ)) (p q r : Pending) (f g : Option E) → Pends ps p q f
     → (f ≡ None → Pends qs q r g) → ((e : E) → f ≡ Some e → g ≡ f) → Pends (ps ++ qs) p r g
-pends_on ps qs p q r None None is second stays =
-    second refl ∙ (ap (λ z. after z qs) is ∙ sym (after_append p ps qs))
+pends_on ps qs p q r None None is second stays = search (rules, after_append)
 pends_on ps qs p q r f (Some e) is second stays = tt
-pends_on ps qs p q r (Some e) None is second stays =
-    absurd (let h : None ≡ Some e = stays e refl in cc)
+pends_on ps qs p q r (Some e) None is second stays = search rules
 
 -- pieces, and then others
 pub wrote_then : {E : Type 0} {whole : Bool} {ps qs : List (List ℕ)} {a b c : TextSeen E}
@@ -68,16 +62,14 @@ wrote_then {whole = whole} {ps = ps} {qs = qs} {a = a} {b = b} {c = c} first sec
   writes = λ fine. writes_on ps qs a.pending b.pending a.output b.output c.output b.failure
       c.failure (first.writes fine) (first.pends fine) second.writes
       (λ e is. (ap (λ s. s.output) (second.stays e is), ap (λ s. s.failure) (second.stays e is)));
-  pends = λ fine. pends_on ps qs a.pending b.pending c.pending b.failure c.failure
-      (first.pends fine) second.pends (λ e is. ap (λ s. s.failure) (second.stays e is));
+  pends = search (rules, pends_on);
   stays = λ e is. second.stays e (ap (λ s. s.failure) (first.stays e is) ∙ is) ∙ first.stays e is;
 }
 
 writes_cut : {E : Type 0} {whole : Bool} (ps qs : List (List ℕ)) (p : Pending) (o m : Output)
     (f : Option E) (e : E) → f ≡ Some e → Writes whole (pieces_bytes p ps) o m (writing_outcome f)
     → Writes whole (pieces_bytes p (ps ++ qs)) o m (writing_outcome f)
-writes_cut ps qs p o m (Some e) x is w =
-    writes_as (Err e) (sym (written_append p ps qs)) (writes_err (pieces_bytes (after p ps) qs) w)
+writes_cut ps qs p o m (Some e) x is w = search (rules, writes_as, written_append, writes_err)
 writes_cut ps qs p o m None x is w = absurd (cc)
 
 pends_cut : {E : Type 0} (ps qs : List (List ℕ)) (p q : Pending) (f : Option E) (e : E) → f ≡ Some e
@@ -103,24 +95,14 @@ pub wrote_one : {E : Type 0} {whole : Bool} (piece : List ℕ) {p q : Pending} {
     → q ≡ piece_pending (piece_fits_after p piece) p piece
     → Wrote {E = E} whole (piece ∷ []) (record { output = o; pending = p; failure = f })
     (record { output = n; pending = q; failure = f })
-wrote_one {E = E} {whole = whole} piece {p = p} {q = q} {o = o} {n = n} {f = f} none w is = record {
-  writes = λ fine. subst (λ z. Writes whole (pieces_bytes p (piece ∷ [])) o n (writing_outcome z))
-      (sym none)
-      (writes_as (Ok tt) (sym (written_one p piece)) w);
-  pends = λ fine. subst (λ z. Pends (piece ∷ []) p q z) (sym none) (is ∙ sym (after_one p piece));
-  stays = λ e some. absurd (let h : None ≡ Some e = sym none ∙ some in cc);
-}
+wrote_one {E = E} {whole = whole} piece {p = p} {q = q} {o = o} {n = n} {f = f} none w is = search (rules, writes_as, written_one, after_one)
 
 pub wrote_one_err : {E : Type 0} {whole : Bool} (piece : List ℕ) {p q : Pending} {o n : Output}
     {f : Option E} {error : E} → f ≡ None → Writes {T = Unit {0}}
     {E = E} whole (piece_bytes (piece_fits_after p piece) p piece) o n (Err error)
     → Wrote {E = E} whole (piece ∷ []) (record { output = o; pending = p; failure = f })
     (record { output = n; pending = q; failure = Some error })
-wrote_one_err {E = E} {whole = whole} piece {p = p} {error = error} none w = record {
-  writes = λ fine. writes_as (Err error) (sym (written_one p piece)) w;
-  pends = λ fine. tt;
-  stays = λ e some. absurd (let h : None ≡ Some e = sym none ∙ some in cc);
-}
+wrote_one_err {E = E} {whole = whole} piece {p = p} {error = error} none w = search (rules, writes_as, written_one)
 
 some_of : {E : Type 0} (o : Option E) → IsSome o → (e : E) × (o ≡ Some e)
 some_of None h = absurd (cc)

@@ -1,7 +1,7 @@
 //! Runs under another limit than 256 steps, and runs that begin after bytes that were taken.
-use super::had_memory;
 use super::streams::{Input, Output};
 use super::table::table;
+use super::{had_memory, is_written};
 use crate::command::Command;
 use crate::fault::{Fault, Kind};
 use crate::run::run;
@@ -62,12 +62,7 @@ fn runs_limited(rt: &(impl Abort + AllocGlobal), row: &Limited, width: usize) ->
     let mut writer = IoWriter::new(Output::new(rt.alloc())?);
     let outcome = had_memory(run(rt.alloc(), command, &mut reader, &mut writer))?;
     assert_eq!(rt; outcome, outcome_of(stop), "at {:?}", input);
-    assert_eq!(rt;
-        writer.into_inner().written.as_slice(),
-        written,
-        "at {:?}",
-        input
-    );
+    is_written(rt, &writer.into_inner(), written, input);
     Ok(())
 }
 

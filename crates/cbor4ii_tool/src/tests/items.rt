@@ -1,7 +1,7 @@
 //! What `canon`, `lens` and `strict` make of one item, or of what is none.
-use super::had_memory;
 use super::streams::Output;
 use super::table::table;
+use super::{had_memory, is_written};
 use crate::command::Command;
 use crate::fault::{Fault, Kind};
 use crate::run::run;
@@ -126,12 +126,7 @@ fn converts(
         Err(kind) => (Err(Fault { at: 0, kind }), b"".as_slice()),
     };
     assert_eq!(rt; outcome, want, "at {:?}", input);
-    assert_eq!(rt;
-        writer.into_inner().written.as_slice(),
-        written,
-        "at {:?}",
-        input
-    );
+    is_written(rt, &writer.into_inner(), written, input);
     Ok(())
 }
 

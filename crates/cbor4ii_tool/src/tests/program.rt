@@ -3,7 +3,7 @@ use super::items::nested;
 use super::rows::{ROWS, Row};
 use super::streams::{Input, Output};
 use super::table::table;
-use super::takes_memory;
+use super::{is_written, takes_memory};
 use crate::command::Command;
 use crate::fault::{Fault, Kind};
 use crate::program::program;
@@ -68,12 +68,7 @@ fn runs_row(rt: &(impl Abort + AllocGlobal), row: &Row) -> io::Result<()> {
     let (status, output, errors) = runs(rt, row.command, input(row.input), output)?;
     assert_eq!(rt; errors.written.as_slice(), row.errors, "at {:?}", row.input);
     assert_eq!(rt; status, row.fault.is_some() as u8, "at {:?}", row.input);
-    assert_eq!(rt;
-        output.written.as_slice(),
-        row.written,
-        "at {:?}",
-        row.input
-    );
+    is_written(rt, &output, row.written, row.input);
     Ok(())
 }
 
@@ -163,58 +158,30 @@ fn faults_are_not_flushed(rt: HostRuntime) -> io::Result<()> {
     Ok(())
 }
 
-// Streams that fail, where `ints` runs over an integer of two bytes.
-struct Failing {
-    good_reads: usize,
-    good_writes: usize,
-    stays: bool,
-    errors: &'static [u8],
-    /// What is written, where that is promised.
-    written: Option<&'static [u8]>,
-}
+// Streams that fail, where `ints` runs over an integer of two bytes: how many reads and writes are
+// good, whether the flush fails, the line of the fault, and what is written, where that is
+// promised.
+type Failing = (usize, usize, bool, &'static [u8], Option<&'static [u8]>);
 
 // What is written waits in the buffer for the flush, when both bytes were taken.
-const FAILING: &[Failing] = &[
-    Failing {
-        good_reads: 0,
-        good_writes: usize::MAX,
-        stays: false,
-        errors: b"fault at 0: Read\n",
-        written: Some(b""),
-    },
-    Failing {
-        good_reads: 1,
-        good_writes: usize::MAX,
-        stays: false,
-        errors: b"fault at 2: Read\n",
-        written: Some(b"\x05"),
-    },
-    Failing {
-        good_reads: usize::MAX,
-        good_writes: 0,
-        stays: false,
-        errors: b"fault at 2: Write\n",
-        written: None,
-    },
-    Failing {
-        good_reads: usize::MAX,
-        good_writes: usize::MAX,
-        stays: true,
-        errors: b"fault at 2: Write\n",
-        written: Some(b"\x05"),
-    },
-];
+const FAILING: &[Failing] = table! {
+    (0, usize::MAX, false, b"fault at 0: Read\n", Some(b"")),
+    (1, usize::MAX, false, b"fault at 2: Read\n", Some(b"\x05")),
+    (usize::MAX, 0, false, b"fault at 2: Write\n", None),
+    (usize::MAX, usize::MAX, true, b"fault at 2: Write\n", Some(b"\x05")),
+};
 
 fn runs_failing(rt: &(impl Abort + AllocGlobal), row: &Failing) -> io::Result<()> {
+    let &(good_reads, good_writes, stays, line, promised) = row;
     let mut input = input(b"\x18\x05");
-    input.good_reads = row.good_reads;
+    input.good_reads = good_reads;
     let mut output = Output::new(rt.alloc())?;
-    output.good_writes = row.good_writes;
-    output.stays = row.stays;
+    output.good_writes = good_writes;
+    output.stays = stays;
     let (status, output, errors) = runs(rt, Command::Ints, input, output)?;
-    assert_eq!(rt; errors.written.as_slice(), row.errors);
+    assert_eq!(rt; errors.written.as_slice(), line);
     assert_eq!(rt; status, 1);
-    if let Some(written) = row.written {
+    if let Some(written) = promised {
         assert_eq!(rt; output.written.as_slice(), written);
     }
     Ok(())

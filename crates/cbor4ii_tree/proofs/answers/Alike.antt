@@ -1,6 +1,6 @@
 -- Two calls over one input are answered alike.
 use Rattle.std.proofs.Common.{◌≡◌, ℕ, List, Some, None, Option, Result, Ok, Err, inl, inr, ◌⊎◌}
-use Rattle.std.proofs.Common.{refl, sym, subst, ap, ◌∙◌}
+use Rattle.std.proofs.Common.{refl, sym, subst, ◌∙◌, rules}
 use Rattle.std.specs.Prelude.{IfSome}
 use Rattle.cbor4ii_rw.specs.{View.View, declared.error.DecodeError.DecodeError}
 use Rattle.cbor4ii_items.specs.{Decoding.Decodes, InputError.{InputError, input_error_of}}
@@ -37,14 +37,7 @@ module _ {V E F : Type 0} (same : V → V → Type 0) (new after : View) where
       → Answered (λ _. ⊥) (λ f. (f ≡ z) × (after.known ≡ Some rest)) s → SameAnswer same new after r s
   both_err z rest (Ok x) s a b = absurd a
   both_err z rest (Err e) (Ok y) a b = absurd b
-  both_err z rest (Err e) (Err f) a b =
-      elim (some_of (λ g. (g ≡ z) × (new.known ≡ Some rest)) (input_error_of e) a) [
-        | inl p ↦ inl p
-        | inr p ↦ elim (some_of (λ g. (g ≡ z) × (after.known ≡ Some rest)) (input_error_of f) b) [
-          | inl q ↦ inr (inl q)
-          | inr q ↦ inr (inr (p.1 ∙ ap Some (p.2.0 ∙ sym q.2.0) ∙ sym q.1, p.2.1 ∙ sym q.2.1))
-        ]
-      ]
+  both_err z rest (Err e) (Err f) a b = search (rules, some_of, inl, inr)
 
 -- both skip
 module _ {V E F : Type 0} (new after : View) where
@@ -74,11 +67,7 @@ module _ {V F : Type 0} (same : V → V → Type 0) (new after : View) (rest : L
       → Answered (λ _. ⊥) (λ f. (f ≡ z) × (after.known ≡ Some rest)) s
       → SameAnswer same new after (Err e) s
   by_err e z is (Ok w) a = absurd a
-  by_err e z is (Err f) a =
-      elim (some_of (λ g. (g ≡ z) × (after.known ≡ Some rest)) (input_error_of f) a) [
-        | inl q ↦ inr (inl q)
-        | inr q ↦ inr (inr (is ∙ ap Some (sym q.2.0) ∙ sym q.1, left ∙ sym q.2.1))
-      ]
+  by_err e z is (Err f) a = search (rules, some_of, inl, inr)
 
 -- both read from a canonical encoding
 pub both_canonical : {E F : Type 0} (xs : List ℕ) (old new other after : View)

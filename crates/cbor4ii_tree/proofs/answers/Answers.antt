@@ -1,8 +1,8 @@
 -- A program that answers with what is accepted and with what is rejected: so one of the two holds,
 -- of one thing.
-use Rattle.std.proofs.Common.{◌≡◌, ℕ, List, inl, inr, Ok, Err, refl, ap}
+use Rattle.std.proofs.Common.{◌≡◌, ℕ, List, inl, inr, Ok, Err, refl, rules}
 use Rattle.cbor4ii_tree.specs.{Basis.Encodings.{SomeAnswer, AtMostOne}, Basis.InputError.InputError}
-use Rattle.cbor4ii_tree.specs.{Laws.Binds.{same_ok, same_err, apart}, Calls.Parse.Answer}
+use Rattle.cbor4ii_tree.specs.{Laws.Binds.{same_ok, same_err}, Calls.Parse.Answer}
 
 by_answer : {A : Type 0} (r s : Answer A) (Accepts : A → List ℕ → Type 0)
     (Rejects : InputError → List ℕ → Type 0) → r ≡ s
@@ -21,11 +21,4 @@ some_answer_of r Accepts Rejects sound errs = by_answer r r Accepts Rejects refl
 pub at_most_one_of : {A : Type 0} (r : Answer A) (Accepts : A → List ℕ → Type 0)
     (Rejects : InputError → List ℕ → Type 0) → ((a : A) (x : List ℕ) → Accepts a x → r ≡ Ok (a, x))
     → ((e : InputError) (x : List ℕ) → Rejects e x → r ≡ Err (e, x)) → AtMostOne Accepts Rejects
-at_most_one_of {A} r Accepts Rejects complete rejects = record {
-  not_both = λ a x e y s t. apart r (a, x) (e, y) (complete a x s) (rejects e y t);
-  one_accepted = λ a b x y s t. let same = same_ok r (a, x) (b, y) (complete a x s)
-      (complete b y t) in (ap (λ (p : A × List ℕ). p.0) same, ap (λ (p : A × List ℕ). p.1) same);
-  one_rejected = λ e f x y s t. let same =
-      same_err r (e, x) (f, y) (rejects e x s) (rejects f y t) in
-      (ap (λ (p : InputError × List ℕ). p.0) same, ap (λ (p : InputError × List ℕ). p.1) same);
-}
+at_most_one_of {A} r Accepts Rejects complete rejects = search (rules, same_ok, same_err)

@@ -1,7 +1,7 @@
 -- No other error comes than an end of the input, which leaves nothing, a want of steps, or one
 -- that nothing mends.
-use Rattle.std.proofs.Common.{◌≡◌, ℕ, zero, suc, ◌*◌, inl, inr, List, [], ◌∷◌, length, Option, Some}
-use Rattle.std.proofs.Common.{None, Bool, true, false, sym, subst}
+use Rattle.std.proofs.Common.{◌≡◌, ℕ, zero, suc, inl, inr, List, [], ◌∷◌, length, Option, Some}
+use Rattle.std.proofs.Common.{None, Bool, true, false, sym, subst, rules}
 use Rattle.cbor4ii_items.specs.{Head.Width, Initial.{Kind, byte_string, text_string, kind_major}}
 use Rattle.cbor4ii_items.specs.Initial.{Initial, starts_int, starts_string, starts_chunks}
 use Rattle.cbor4ii_items.specs.Initial.{starts_array, starts_indefinite_array, bad_array}
@@ -10,10 +10,10 @@ use Rattle.cbor4ii_items.specs.Initial.{starts_simple, starts_bits, initial}
 use Rattle.cbor4ii_tree.specs.Basis.{Cost.{Budget, step_in}, InputError.{InputError, Len, eof}}
 use Rattle.cbor4ii_tree.specs.Basis.InputError.{MayReject, IsEof, IsFinal, IsDepthOverflow}
 use Rattle.cbor4ii_tree.specs.Basis.{InputError.{depth_overflow, tag_name}, Tree.Tree}
-use Rattle.cbor4ii_tree.specs.Calls.ItemRejects.{Profile, NoUtf8Joined, ChunkRejectsBy, ChunkOf}
+use Rattle.cbor4ii_tree.specs.Calls.ItemRejects.{Profile, NoUtf8Joined, ChunkRejectsBy}
 use Rattle.cbor4ii_tree.specs.Calls.ItemRejects.{RejectsChunkBy, RejectsBy, RejectsFrom}
 use Rattle.cbor4ii_tree.specs.Calls.{ItemRejects.{RejectsWithin, ItemRejects}, Rejections.Rejection}
-use Rattle.cbor4ii_tree.specs.Calls.Rejections.{Missing, AtHead, RejectsInCount, RejectsAtStep}
+use Rattle.cbor4ii_tree.specs.Calls.Rejections.{Missing, AtHead, RejectsAtStep}
 use Rattle.cbor4ii_tree.specs.Calls.Rejections.{NoBreak, IndefiniteItems, IndefinitePairs}
 use Rattle.cbor4ii_tree.proofs.parts.Rejecting.{either}
 
@@ -35,10 +35,7 @@ final_only (depth_overflow name) h = absurd h
 final_only _ h = ((λ y. y), (λ y. y))
 
 final : (f e : InputError) (rest : List ℕ) → e ≡ f → IsFinal f → Says e rest
-final f e rest is h = (
-  subst MayReject (sym is) (inr (inr h)),
-  λ q. absurd ((final_only f h).0 (subst IsEof is q)),
-)
+final f e rest is h = search (rules, inr, final_only)
 
 at_head_known : (name : List ℕ) (major : ℕ) (w : Width) (b : ℕ) (then : ℕ → Rejection)
     → ((n : ℕ) → Known (then n)) → Known (AtHead name major w b then)
@@ -47,9 +44,7 @@ at_head_known name major w b then k bs e rest (inr x) = k x.argument x.after e r
 
 cut_known : (name : List ℕ) (k : Kind) (w : Width) (b : ℕ)
     → Known (AtHead name (kind_major k) w b (Missing name))
-cut_known name k w b =
-    at_head_known name (kind_major k) w b (Missing name)
-    (λ n bs e rest y. ended _ _ e rest y.1.0 y.1.1)
+cut_known name k w b = search (rules, at_head_known)
 
 stepped_known : (name : List ℕ) (step : Option Budget) (here : List ℕ)
     (s : Budget → InputError → List ℕ → Type 0) (e : InputError) (rest : List ℕ)
@@ -67,10 +62,7 @@ items_known : (W : Tree → Type 0) (s : Rejection) → Known s → Known (Indef
 items_known W s k bs e rest x = no_break_known s k x.after e rest x.rejected
 
 pairs_known : (W : Tree → Type 0) (s : Rejection) → Known s → Known (IndefinitePairs W s)
-pairs_known W s k bs e rest x = elim x.rejected [
-  | inl y ↦ no_break_known s k x.after e rest y
-  | inr y ↦ k y.after e rest y.rejected
-]
+pairs_known W s k bs e rest x = search (rules, inl, no_break_known, inr)
 
 chunk_by_known : (k : Kind) (i : Initial) (a : ℕ) → Known (ChunkRejectsBy k i a)
 chunk_by_known byte_string (starts_string byte_string v) a bs e rest x =
@@ -87,9 +79,7 @@ chunk_known : (tests : Bool) (k : Kind) (b : Budget) (s : Rejection) → Known s
     → Known (RejectsChunkBy tests k b s)
 chunk_known false k b s g bs e rest x = g bs e rest x
 chunk_known true k b s g [] e rest x = ended _ _ e rest x.0 x.1
-chunk_known true k b s g (a ∷ bs) e rest x =
-    stepped_known _ (step_in b) (a ∷ bs) (λ inner. ChunkRejectsBy k (initial a) a bs) e rest
-    (λ inner y. chunk_by_known k (initial a) a bs e rest y) x
+chunk_known true k b s g (a ∷ bs) e rest x = search (rules, stepped_known, chunk_by_known)
 
 module _ (p : Profile) where
   module _ (b : Budget) (s : Budget → Rejection) (k : (c : Budget) → Known (s c)) where
@@ -98,25 +88,13 @@ module _ (p : Profile) where
     by_known (starts_string kd v) a bs e rest x =
         either p.tests (cut_known _ kd v a bs e rest) (λ t y. final _ e rest y.rejected.err tt) x
     by_known (starts_chunks kd) a bs e rest x =
-        either {B = NoUtf8Joined kd (ChunkOf p.tests kd b (p.Whole b)) bs e rest} p.tests
-        (items_known _ _ (chunk_known p.tests kd b (s b) (k b)) bs e rest)
-        (λ t y. final _ e rest y.err tt) x
-    by_known (starts_array v) a bs e rest x =
-        stepped_known _ (p.inside b) (a ∷ bs) _ e rest (λ c z. at_head_known p.of_array 4 v a
-        (RejectsInCount (p.Whole c) (s c)) (λ n bs' e' rest' y. k c y.after e' rest' y.rejected) bs
-        e rest z) x
-    by_known starts_indefinite_array a bs e rest x =
-        stepped_known _ (p.inside b) (a ∷ bs) _ e rest
-        (λ c z. items_known (p.Whole c) (s c) (k c) bs e rest z) x
+        search (rules, either, NoUtf8Joined, items_known, chunk_known, final)
+    by_known (starts_array v) a bs e rest x = search (rules, stepped_known, at_head_known)
+    by_known starts_indefinite_array a bs e rest x = search (rules, stepped_known, items_known)
     by_known bad_array a bs e rest x =
         stepped_known _ (p.inside b) (a ∷ bs) _ e rest (λ c z. final _ e rest z.0 tt) x
-    by_known (starts_map v) a bs e rest x =
-        stepped_known _ (p.inside b) (a ∷ bs) _ e rest (λ c z. at_head_known p.of_map 5 v a
-        (λ n. RejectsInCount (p.Whole c) (s c) (2 * n))
-        (λ n bs' e' rest' y. k c y.after e' rest' y.rejected) bs e rest z) x
-    by_known starts_indefinite_map a bs e rest x =
-        stepped_known _ (p.inside b) (a ∷ bs) _ e rest
-        (λ c z. pairs_known (p.Whole c) (s c) (k c) bs e rest z) x
+    by_known (starts_map v) a bs e rest x = search (rules, stepped_known, at_head_known)
+    by_known starts_indefinite_map a bs e rest x = search (rules, stepped_known, pairs_known)
     by_known bad_map a bs e rest x =
         stepped_known _ (p.inside b) (a ∷ bs) _ e rest (λ c z. final _ e rest z.0 tt) x
     by_known (starts_tag v) a bs e rest x =

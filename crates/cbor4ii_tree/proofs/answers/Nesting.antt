@@ -1,8 +1,8 @@
 -- The bound on how deep items nest takes nothing away: a rejection goes by those of the parts,
 -- however deep these go.
 use Rattle.std.proofs.Common.{ℕ, zero, suc, ◌*◌, ◌<◌, ◌≤◌, inl, inr, ◌↔◌, ◌/◌, List, [], ◌∷◌}
-use Rattle.std.proofs.Common.{length, ap, arith, length-append}
-use Rattle.cbor4ii_items.specs.{Head.{head, shortest_width}, Initial.{Initial, starts_tag, initial}}
+use Rattle.std.proofs.Common.{length, arith, length-append, rules}
+use Rattle.cbor4ii_items.specs.{Initial.{Initial, starts_tag, initial}}
 use Rattle.cbor4ii_tree.specs.Calls.CanonicalRejects.{FitsCanonically, AtShortest}
 use Rattle.cbor4ii_tree.specs.Calls.CanonicalRejects.{CanonicalRejectsBy, CanonicalRejectsFrom}
 use Rattle.cbor4ii_tree.specs.Calls.CanonicalRejects.{CanonicalRejectsWithin, CanonicalRejects}
@@ -67,12 +67,7 @@ at_shortest_below : (k : ℕ) (name : List ℕ) (major : ℕ) (b : Budget) (s t 
     → ((n : ℕ) → Below k (s n) (t n))
     → Below (suc k) (AtShortest name major b s) (AtShortest name major b t)
 at_shortest_below k name major b s t f bs e rest lt (inl x) = inl x
-at_shortest_below k name major b s t f bs e rest lt (inr x) =
-    let n = x.argument in
-    let less : length x.after < k =
-    omega (arith, ap length x.is.1, length-append (head major n (shortest_width n)) x.after) in
-    inr (record
-    { argument = n; after = x.after; is = x.is; rejected = f n x.after e rest less x.rejected })
+at_shortest_below k name major b s t f bs e rest lt (inr x) = search (rules, length-append, inr)
 
 canonical_by_below : (k : ℕ) (b : Budget) (s t : Budget → Rejection)
     → ((c : Budget) → Below k (s c) (t c)) → (major : ℕ) (a : ℕ)

@@ -1,32 +1,35 @@
--- What a decoding call promises of known bytes follows from what it accepts and where it fails.
-use Rattle.std.proofs.Common.{IfOk, false, ◌≡◌, ℕ, inl, List, [], ◌++◌, length, take, drop, Option}
-use Rattle.std.proofs.Common.{Some, None, Result, Ok, Err, refl, sym, ap, ◌∙◌, subst, append-nil}
-use Rattle.std.proofs.Common.{arith, length-append, MatchBool, IfSome}
-use Rattle.std.proofs.lemmas.List.{take-append-drop}
+-- What a decoding call promises follows from what it accepts and where it fails.
+use Rattle.std.proofs.Common.{rules, IfOk, false, ◌≡◌, ℕ, inl, List, [], ◌++◌, length, take, drop}
+use Rattle.std.proofs.Common.{Option, Some, None, Result, Ok, Err, refl, sym, ap, ◌∙◌, subst}
+use Rattle.std.proofs.Common.{append-nil, arith, length-append, IfSome, take-append-drop, IfErr}
+use Rattle.std.proofs.{Common.{OnOk, ◌+◌, ◌≤◌}, Math.Seq.{drop-append_seam, take-append_seam}}
 use Rattle.cbor4ii_rw.specs.{declared.error.DecodeError.DecodeError, View.View}
 use Rattle.cbor4ii_items.specs.{Head.IsBytes, InputError.{InputError, input_error_of}}
-use Rattle.cbor4ii_items.specs.{Laws.Answering.not_read, Moves.{Moves, Kept, ReaderFailed}}
+use Rattle.cbor4ii_items.specs.{Laws.Answering.not_read, Moves.{Moves}}
+use Rattle.cbor4ii_items.specs.{Budget.CostFits, Decoding.{Sound, Complete, Rejects, NoneRead}}
+use Rattle.cbor4ii_items.specs.{Decoding.Decodes, Laws.Calls.any_memory}
 use Rattle.cbor4ii_tree.specs.Basis.Canonical.{canonical_encoding, canonical_cost}
-use Rattle.cbor4ii_tree.specs.{Basis.Cost.Budget, declared.value.Value.Value, Inner.Does.Accepting}
-use Rattle.cbor4ii_tree.specs.{Inner.Does.Does, Basis.Encodings.{Encodes, DecodesTo}}
+use Rattle.cbor4ii_tree.specs.{Basis.Cost.{Budget, cost}, declared.value.Value.Value}
+use Rattle.cbor4ii_tree.specs.{Inner.Does.{Accepting, Does}, Basis.Encodings.{Encodes, DecodesTo}}
 use Rattle.cbor4ii_tree.specs.{Basis.Encodings.IsProperPrefix, Basis.Headline.{Answered, AllSkips}}
 use Rattle.cbor4ii_tree.specs.Basis.Headline.{OnlyReads, AllReads, PrefixReads, EofReads}
 use Rattle.cbor4ii_tree.specs.{Basis.Headline.{SkipsReads, CanonicalReads}, Basis.InputError.IsEof}
-use Rattle.cbor4ii_tree.specs.{Basis.Item.IsItem, Calls.Promises.{Others, PrefixSkips, EofSkips}}
-use Rattle.cbor4ii_tree.specs.Calls.Promises.{DepthSkips, FinalSkips, ExactSkips, DepthReads}
-use Rattle.cbor4ii_tree.specs.Calls.Promises.{FinalReads, ExactReads, SizeReads}
+use Rattle.cbor4ii_tree.specs.{Basis.Item.{IsItem, Item}, Calls.Promises.{Others, PrefixSkips}}
+use Rattle.cbor4ii_tree.specs.Calls.Promises.{EofSkips, DepthSkips, FinalSkips, ExactSkips}
+use Rattle.cbor4ii_tree.specs.Calls.Promises.{DepthReads, FinalReads, ExactReads, SizeReads}
+use Rattle.cbor4ii_tree.specs.Calls.Promises.{ReadsValue, value_format}
 use Rattle.cbor4ii_tree.specs.Calls.ReadingRejects.{ReadingRejects, Readable, reading_profile}
 use Rattle.cbor4ii_tree.specs.{Calls.Rejections.Rejection, Inner.Skipping.SkipsOne}
 use Rattle.cbor4ii_tree.specs.Inner.Skipping.{RejectsSkippingOne}
 use Rattle.cbor4ii_tree.specs.{Calls.SkippingRejects.skipping_profile, Basis.Tree.{Tree, bytes}}
 use Rattle.cbor4ii_tree.specs.{Basis.Tree.{Loose, Joins}, Inner.Valuing.ReadsOneValue}
-use Rattle.cbor4ii_tree.specs.Basis.View.{view}
+use Rattle.cbor4ii_tree.specs.{Inner.Valuing.RejectsOneValue, Basis.View.view}
 use Rattle.cbor4ii_tree.proofs.answers.MayReject.{may_reject, leaves_nothing}
 use Rattle.cbor4ii_tree.proofs.encodings.CanonicalShape.{canonical_encodes}
 use Rattle.cbor4ii_tree.proofs.{encodings.Sizes.size-of_tree, profile.Answer.skipping_laws}
 use Rattle.cbor4ii_tree.proofs.profile.Answer.{reading_laws, no_eof, stays, final_stays, no_prefix}
 use Rattle.cbor4ii_tree.proofs.{profile.Answer.{eof_alone, eof_on_prefix}, reading.Answer.tree_of}
-use Rattle.cbor4ii_tree.proofs.reading.Answer.{decodes_tree, one_reading}
+use Rattle.cbor4ii_tree.proofs.reading.Answer.{decodes_tree, one_reading, not_both}
 use Rattle.cbor4ii_tree.proofs.skipping.Answer.{one_skipping}
 use Rattle.cbor4ii_tree.proofs.reading.Laws as readings
 
@@ -49,11 +52,7 @@ taken_bytes xs n new left none h =
 pub all_bytes : {V E : Type 0} (a b : View) (e : DecodeError E) (z : InputError) (xs : List ℕ)
     → input_error_of e ≡ Some z → Moves {V = V} a b (Err e) → a.known ≡ Some xs → b.known ≡ Some []
     → IsBytes xs
-all_bytes a b e z xs says moves known none =
-    let kept : Kept a b =
-    subst (λ r. MatchBool r (ReaderFailed a b) (Kept a b)) (not_read e z says) moves.by in
-    let took = kept.rest xs known in
-    taken_bytes xs took.0 b.known took.1.left none took.1.bytes
+all_bytes a b e z xs says moves known none = search (rules, not_read, says, taken_bytes)
 
 -- What an answer says follows from what is accepted, and from where it fails: then bytes of which
 -- nothing is left are bytes.
@@ -85,11 +84,7 @@ module _ {V E : Type 0} {a b : View} (answer : Result V (DecodeError E))
       ((loose, fits), sym prefix.2 ∙ sym (append-nil (bytes t))))
 
   pub eof_skips : EofSkips a b answer
-  eof_skips = λ xs known. says answer d xs known (λ ys v left s. tt) (λ ys z ended left h i.
-      let none : b.known ≡ Some [] = left ∙ ap Some (leaves_nothing skipping_profile xs a.budget z
-      ys i h)
-      in let t = eof_on_prefix skipping_laws xs a.budget z ys (ended none) i h in
-      (none, (t.0, t.1, t.3)))
+  eof_skips = search (rules, says, leaves_nothing, eof_on_prefix, skipping_laws)
 
   pub depth_skips : DepthSkips a answer
   depth_skips = λ xs known. says answer d xs known (λ ys v left s. tt)
@@ -126,7 +121,7 @@ pub reading_eof_prefix : (xs : List ℕ) (budget : Budget) (z : InputError) (ys 
     → IsBytes xs → ReadingRejects xs budget z ys
     → (t : Tree) × Loose t × Joins t × IsProperPrefix xs (bytes t)
 reading_eof_prefix xs budget z ys i h s =
-    let t = eof_on_prefix reading_laws xs budget z ys h i s in (t.0, t.1.0, t.1.1, t.3)
+    let t = eof_on_prefix reading_laws xs budget z ys h i s in (t.0, t.1.0, t.1.1 refl, t.3)
 
 module _ {E : Type 0} {a b : View} (answer : Result Value (DecodeError E))
     (d : ReadsCall a b answer) where
@@ -220,3 +215,70 @@ canonical_reads {a = a} (Ok v) d item = λ xs known.
           g.fits;
     }
 canonical_reads (Err e) d item = λ xs known. tt
+
+-- ---- in the words of the definitions
+
+reads_prefix : (budget : Budget) (xs : List ℕ) (v : Item) (n c : ℕ) → ReadsValue xs v n c
+    → CostFits c budget → DecodesTo xs budget v (drop n xs)
+reads_prefix budget xs v n c r fits = search (rules, take-append-drop)
+
+-- ---- what a decoding call promises
+
+module _ {E : Type 0} {a b : View} where
+  value_sound : (r : Result Value (DecodeError E)) → Does (ReadsOneValue false a.budget)
+      (RejectsOneValue false a.budget) a b r → IfOk r
+      (Sound (λ xs (v : Value). ReadsValue xs (view v)) a b)
+  value_sound (Err e) d = tt
+  value_sound (Ok v) d = record {
+    at = λ xs known.
+        let s = d.ok xs known in
+        let t = s.2.0 in
+        let n = length (bytes t) in
+        let trailing : drop n xs ≡ s.0 = ap (drop n) s.2.3 ∙ drop-append_seam (bytes t) s.0 in
+        let prefix : take n xs ≡ bytes t = ap (take n) s.2.3 ∙ take-append_seam (bytes t) s.0 in
+        record {
+          count = n;
+          cost = cost t;
+          read = record {
+            within = omega (arith, ap length s.2.3, length-append (bytes t) s.0);
+            encodes = record {
+              of_tree = t;
+              plain = s.2.1.0;
+              bytes_are = sym prefix;
+              value_is = s.2.2;
+              cost_is = refl;
+            };
+          };
+          fits = s.2.1.1;
+          left = s.1 ∙ ap Some (sym trailing);
+        };
+  }
+
+  value_complete : (r : Result Value (DecodeError E))
+      → Does (ReadsOneValue false a.budget) (RejectsOneValue false a.budget) a b r
+      → IfErr r (Complete (λ xs (v : Value). ReadsValue xs (view v)) a)
+  value_complete (Ok v) d = tt
+  value_complete (Err e) d = record {
+    at = λ xs known. if_some _
+        (λ z. (ys : List ℕ) × (b.known ≡ Some ys) × ReadingRejects xs a.budget z ys) (λ z. NoneRead
+        (λ xs (v : Value). ReadsValue xs (view v)) xs a.budget) (λ z is h v n c r fits. not_both xs
+        a.budget (view v) (drop n xs) z h.0 (reads_prefix _ _ _ _ _ r fits) h.2) (d.err xs known);
+  }
+
+  value_rejects : (r : Result Value (DecodeError E)) → Does (ReadsOneValue false a.budget)
+      (RejectsOneValue false a.budget) a b r → IfErr r (Rejects ReadingRejects a b)
+  value_rejects (Ok v) d = tt
+  value_rejects (Err e) d = record { at = λ xs known. d.err xs known }
+
+  pub value_decodes : (r : Result Value (DecodeError E)) → Does (ReadsOneValue false a.budget)
+      (RejectsOneValue false a.budget) a b r → OnOk r (b.bound + 1 ≤ a.bound) → Decodes value_format
+      a b r
+  value_decodes r d progress = record {
+    moves = d.moves;
+    progress = λ some. progress;
+    memory = any_memory r;
+    sound = value_sound r d;
+    complete = λ canonical. value_complete r d;
+    rejects = λ canonical. value_rejects r d;
+    begins = value_rejects r d;
+  }

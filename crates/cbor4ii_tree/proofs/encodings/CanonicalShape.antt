@@ -1,14 +1,14 @@
 -- A canonical tree is the one whose bytes are the canonical encoding of its value.
 use Rattle.std.proofs.Common.{◌≡◌, ℕ, ◌+◌, ◌*◌, ◌^◌, ◌<◌, List, [], ◌∷◌, ◌++◌, length, false, ltb}
 use Rattle.std.proofs.Common.{ltb-true, lt-ltb, pos, negsuc, refl, sym, ap, ap₂, ◌∙◌, subst, arith}
-use Rattle.std.proofs.Common.{append_assoc, get_or, suc, Bool, true, cond}
+use Rattle.std.proofs.Common.{append_assoc, get_or, suc, Bool, true, cond, rules}
 use Rattle.std.proofs.lemmas.List.{append_cancel_left}
-use Rattle.std.specs.{Prelude.◌↔◌, Int.bytes_high_first}
+use Rattle.std.specs.{Prelude.◌↔◌}
 use Rattle.cbor4ii_items.specs.{Budget.CostFits, Head.{Width, HeadFits, additional, head}}
 use Rattle.cbor4ii_items.specs.{Head.{indefinite_head, shortest_width, break}, Initial.Sign}
 use Rattle.cbor4ii_items.specs.Initial.{unsigned, negative, sign_major, Kind, byte_string}
 use Rattle.cbor4ii_items.specs.Initial.{text_string, kind_major, simple_false, simple_null}
-use Rattle.cbor4ii_items.specs.Initial.{simple_undefined, simple_byte, info_of}
+use Rattle.cbor4ii_items.specs.Initial.{simple_undefined, simple_byte}
 use Rattle.cbor4ii_items.specs.Laws.Heads.{if_cases, shortest_fits, argument_below, same_wide}
 use Rattle.cbor4ii_items.specs.Laws.Heads.{length-bytes_high_first}
 use Rattle.cbor4ii_items.specs.Laws.NumbersBack.{length-without_leading_zeros}
@@ -16,43 +16,37 @@ use Rattle.cbor4ii_tree.specs.Basis.Canonical.{with_bignums, canonical_encoding,
 use Rattle.cbor4ii_tree.specs.Basis.Canonical.{canonical_tree, canonical_trees, canonical_pairs}
 use Rattle.cbor4ii_tree.specs.Basis.Canonical.{integer_tree, tagged_integer, bignum, magnitude}
 use Rattle.cbor4ii_tree.specs.Basis.Canonical.{sign_tag, with_bignums_all, with_bignums_pairs}
-use Rattle.cbor4ii_tree.specs.Calls.CanonicalShape.{CanonicalShape, CanonicalShapeAll}
-use Rattle.cbor4ii_tree.specs.Calls.CanonicalShape.{CanonicalShapePairs, IsDecoded}
-use Rattle.cbor4ii_tree.specs.Calls.CanonicalShape.{EncodesCanonically, DecodesCanonically}
-use Rattle.cbor4ii_tree.specs.Basis.Item.{AreItemPairs, Item, boolean, integer, float, bytes_item}
-use Rattle.cbor4ii_tree.specs.Basis.Item.{text, sequence, mapping, tag, Items, no_items, item}
-use Rattle.cbor4ii_tree.specs.Basis.Item.{ItemPairs, no_item_pairs, item_pair, item_count}
-use Rattle.cbor4ii_tree.specs.Basis.Item.{item_pair_count, IsItem, AreItems}
-use Rattle.cbor4ii_tree.specs.{Laws.Ignoring.one_encoding, Laws.Numbers.info-additional}
-use Rattle.cbor4ii_tree.specs.{Laws.PartsAgain.pair_split, Basis.Cost.{cost, Budget}}
-use Rattle.cbor4ii_tree.specs.Basis.Meaning.{value, values, pair_values_of, number, content_item}
-use Rattle.cbor4ii_tree.specs.Basis.Tree.{Tree, int, string, chunked, array, array_indefinite}
-use Rattle.cbor4ii_tree.specs.Basis.Tree.{map_of, map_indefinite, tagged, simple, bits, Trees}
-use Rattle.cbor4ii_tree.specs.Basis.Tree.{no_trees, tree, Pairs, no_pairs, pair, count, pair_count}
+use Rattle.cbor4ii_tree.specs.Basis.{Cost.{cost, Budget}, Encodings.Encodes, Item.AreItemPairs}
+use Rattle.cbor4ii_tree.specs.Basis.Item.{Item, boolean, integer, float, bytes_item, text, sequence}
+use Rattle.cbor4ii_tree.specs.Basis.Item.{mapping, tag, Items, no_items, item, ItemPairs}
+use Rattle.cbor4ii_tree.specs.Basis.Item.{no_item_pairs, item_pair, item_count, item_pair_count}
+use Rattle.cbor4ii_tree.specs.Basis.{Item.{IsItem, AreItems}, Meaning.{value, values}}
+use Rattle.cbor4ii_tree.specs.Basis.{Meaning.{pair_values_of, number, content_item}, Tree.Tree}
+use Rattle.cbor4ii_tree.specs.Basis.Tree.{int, string, chunked, array, array_indefinite, map_of}
+use Rattle.cbor4ii_tree.specs.Basis.Tree.{map_indefinite, tagged, simple, bits, Trees, no_trees}
+use Rattle.cbor4ii_tree.specs.Basis.Tree.{tree, Pairs, no_pairs, pair, count, pair_count}
 use Rattle.cbor4ii_tree.specs.Basis.Tree.{joined_chunks, bytes, bytes_all, bytes_pairs, Loose}
-use Rattle.cbor4ii_tree.specs.Basis.Tree.{LooseAll, LoosePairs, SoundStrings, SoundStringsAll}
-use Rattle.cbor4ii_tree.specs.{Basis.Tree.{SoundStringsPairs, Plain}, Basis.Encodings.Encodes}
+use Rattle.cbor4ii_tree.specs.Basis.Tree.{LooseAll, LoosePairs, SoundStringsAll, SoundStringsPairs}
+use Rattle.cbor4ii_tree.specs.{Basis.Tree.Plain, Calls.CanonicalShape.CanonicalShape}
+use Rattle.cbor4ii_tree.specs.Calls.CanonicalShape.{CanonicalShapeAll, CanonicalShapePairs}
+use Rattle.cbor4ii_tree.specs.Calls.CanonicalShape.{IsDecoded, EncodesCanonically}
+use Rattle.cbor4ii_tree.specs.Calls.CanonicalShape.{DecodesCanonically, CanonicalTree}
+use Rattle.cbor4ii_tree.specs.Laws.{Ignoring.one_encoding, Numbers.info-additional}
 use Rattle.cbor4ii_tree.proofs.encodings.Sizes.{integer-value, content-value, item_count-values}
 use Rattle.cbor4ii_tree.proofs.encodings.Sizes.{pair_count-values}
 
 -- ---- the canonical encoding is an encoding
 
 length-magnitude : (n : ℕ) → length (magnitude n) < 2 ^ 64
-length-magnitude n =
-    omega
-    (arith, length-without_leading_zeros (bytes_high_first 16 n), length-bytes_high_first 16 n)
+length-magnitude n = search (rules, length-without_leading_zeros, length-bytes_high_first)
 
 pub tag_fits : (s : Sign) → HeadFits (shortest_width (sign_tag s)) (sign_tag s)
 tag_fits unsigned = omega arith
 tag_fits negative = omega arith
 
-loose_integer : (s : Sign) (n : ℕ) → Loose (integer_tree s n)
-loose_integer s n =
-    if_cases Loose (ltb n (2 ^ 64)) _ _ (λ e. shortest_fits n (ltb-true n (2 ^ 64) e))
-    (λ e. (tag_fits s, shortest_fits (length (magnitude n)) (length-magnitude n)))
-
-sound_integer : (s : Sign) (n : ℕ) → SoundStrings (integer_tree s n)
-sound_integer s n = if_cases SoundStrings (ltb n (2 ^ 64)) _ _ (λ e. tt) (λ e. tt)
+canonical_integer : (s : Sign) (n : ℕ) → CanonicalTree (integer_tree s n)
+canonical_integer s n =
+    search (rules, if_cases, shortest_fits, ltb-true, tag_fits, length-magnitude)
 
 pub count-canonical_encoding : (vs : Items) → count (canonical_trees vs) ≡ item_count vs
 count-canonical_encoding no_items = refl
@@ -66,47 +60,40 @@ definite_fits : (n m : ℕ) → n ≡ m → m < 2 ^ 64 → HeadFits (shortest_wi
 definite_fits n m e h = subst (HeadFits (shortest_width m)) (sym e) (shortest_fits m h)
 
 mutual
-  pub loose_canonical : (v : Item) → IsItem v → Loose (canonical_tree v)
-  loose_canonical (integer (pos n)) h = loose_integer unsigned n
-  loose_canonical (integer (negsuc n)) h = loose_integer negative n
-  loose_canonical (float p n) h = h
-  loose_canonical (bytes_item bs) h = shortest_fits (length bs) h
-  loose_canonical (text bs) h = shortest_fits (length bs) h.0
-  loose_canonical (sequence vs) h =
-      (definite_fits _ _ (count-canonical_encoding vs) h.0, loose_canonical_all vs h.1)
-  loose_canonical (mapping ms) h =
-      (definite_fits _ _ (count-pairs ms) h.0, loose_canonical_pairs ms h.1)
-  loose_canonical (tag n v) h = (shortest_fits n h.0, loose_canonical v h.1)
-  loose_canonical _ h = tt
+  pub is_canonical : (v : Item) → IsItem v → CanonicalTree (canonical_tree v)
+  is_canonical (boolean false) h = ((tt, tt), λ e. cc)
+  is_canonical (integer (pos n)) h = canonical_integer unsigned n
+  is_canonical (integer (negsuc n)) h = canonical_integer negative n
+  is_canonical (float p n) h = ((h, tt), tt)
+  is_canonical (bytes_item bs) h = ((shortest_fits (length bs) h, tt), refl)
+  is_canonical (text bs) h = ((shortest_fits (length bs) h.0, h.1), refl)
+  is_canonical (sequence vs) h =
+      let c = count-canonical_encoding vs in
+      let r = are_canonical vs h.1 in
+      (((definite_fits _ _ c h.0, r.0.0), r.0.1), (ap shortest_width (sym c), r.1))
+  is_canonical (mapping ms) h =
+      let c = count-pairs ms in
+      let r = pairs_canonical ms h.1 in
+      (((definite_fits _ _ c h.0, r.0.0), r.0.1), (ap shortest_width (sym c), r.1))
+  is_canonical (tag n v) h =
+      let r = is_canonical v h.1 in (((shortest_fits n h.0, r.0.0), r.0.1), (refl, r.1))
+  is_canonical _ h = ((tt, tt), λ e. cc)
 
-  loose_canonical_all : (vs : Items) → AreItems vs → LooseAll (canonical_trees vs)
-  loose_canonical_all no_items h = tt
-  loose_canonical_all (item v vs) h = (loose_canonical v h.0, loose_canonical_all vs h.1)
+  are_canonical : (vs : Items) → AreItems vs → (LooseAll (canonical_trees vs)
+      × SoundStringsAll (canonical_trees vs)) × CanonicalShapeAll (canonical_trees vs)
+  are_canonical no_items h = ((tt, tt), tt)
+  are_canonical (item v vs) h =
+      let a = is_canonical v h.0 in
+      let r = are_canonical vs h.1 in (((a.0.0, r.0.0), (a.0.1, r.0.1)), (a.1, r.1))
 
-  loose_canonical_pairs : (ms : ItemPairs) → AreItemPairs ms → LoosePairs (canonical_pairs ms)
-  loose_canonical_pairs no_item_pairs h = tt
-  loose_canonical_pairs (item_pair k v ms) h =
-      (loose_canonical k h.0, loose_canonical v h.1, loose_canonical_pairs ms h.2)
-
-mutual
-  pub sound_canonical : (v : Item) → IsItem v → SoundStrings (canonical_tree v)
-  sound_canonical (integer (pos n)) h = sound_integer unsigned n
-  sound_canonical (integer (negsuc n)) h = sound_integer negative n
-  sound_canonical (text bs) h = h.1
-  sound_canonical (sequence vs) h = sound_canonical_all vs h.1
-  sound_canonical (mapping ms) h = sound_canonical_pairs ms h.1
-  sound_canonical (tag n v) h = sound_canonical v h.1
-  sound_canonical _ h = tt
-
-  sound_canonical_all : (vs : Items) → AreItems vs → SoundStringsAll (canonical_trees vs)
-  sound_canonical_all no_items h = tt
-  sound_canonical_all (item v vs) h = (sound_canonical v h.0, sound_canonical_all vs h.1)
-
-  sound_canonical_pairs : (ms : ItemPairs) → AreItemPairs ms → SoundStringsPairs
-      (canonical_pairs ms)
-  sound_canonical_pairs no_item_pairs h = tt
-  sound_canonical_pairs (item_pair k v ms) h =
-      (sound_canonical k h.0, sound_canonical v h.1, sound_canonical_pairs ms h.2)
+  pairs_canonical : (ms : ItemPairs) → AreItemPairs ms → (LoosePairs (canonical_pairs ms)
+      × SoundStringsPairs (canonical_pairs ms)) × CanonicalShapePairs (canonical_pairs ms)
+  pairs_canonical no_item_pairs h = ((tt, tt), tt)
+  pairs_canonical (item_pair k v ms) h =
+      let a = is_canonical k h.0 in
+      let b = is_canonical v h.1 in
+      let r = pairs_canonical ms h.2 in
+      (((a.0.0, b.0.0, r.0.0), (a.0.1, b.0.1, r.0.1)), (a.1, b.1, r.1))
 
 value_integer : (s : Sign) (n : ℕ)
     → value (integer_tree s n) ≡ tagged_integer s n (integer (number s n))
@@ -147,7 +134,7 @@ pub canonical_encodes : (v : Item) → IsItem v → Encodes (canonical_encoding 
     (cost (canonical_tree v))
 canonical_encodes v h = record {
   of_tree = canonical_tree v;
-  plain = (loose_canonical v h, sound_canonical v h);
+  plain = (is_canonical v h).0;
   bytes_are = refl;
   value_is = value-canonical_encoding v;
   cost_is = refl;
@@ -193,38 +180,6 @@ mutual
   with_bignums-pair_values (pair k v ps) h =
       cc (with_bignums-value k h.0, with_bignums-value v h.1, with_bignums-pair_values ps h.2)
 
--- ---- what encoders write has the shape
-
-shape_integer : (s : Sign) (n : ℕ) → CanonicalShape (integer_tree s n)
-shape_integer s n = if_cases CanonicalShape (ltb n (2 ^ 64)) _ _ (λ e. refl) (λ e. (refl, refl))
-
-mutual
-  pub shape_canonical : (v : Item) → CanonicalShape (canonical_tree v)
-  shape_canonical (boolean false) = λ e. cc
-  shape_canonical (integer (pos n)) = shape_integer unsigned n
-  shape_canonical (integer (negsuc n)) = shape_integer negative n
-  shape_canonical (float p n) = tt
-  shape_canonical (bytes_item bs) = refl
-  shape_canonical (text bs) = refl
-  shape_canonical (sequence vs) =
-      (ap shortest_width (sym (count-canonical_encoding vs)), shape_canonical_all vs)
-  shape_canonical (mapping ms) = (
-    ap shortest_width (sym (count-pairs ms)),
-    shape_canonical_pairs
-        ms,
-  )
-  shape_canonical (tag n v) = (refl, shape_canonical v)
-  shape_canonical _ = λ e. cc
-
-  shape_canonical_all : (vs : Items) → CanonicalShapeAll (canonical_trees vs)
-  shape_canonical_all no_items = tt
-  shape_canonical_all (item v vs) = (shape_canonical v, shape_canonical_all vs)
-
-  shape_canonical_pairs : (ms : ItemPairs) → CanonicalShapePairs (canonical_pairs ms)
-  shape_canonical_pairs no_item_pairs = tt
-  shape_canonical_pairs (item_pair k v ms) =
-      (shape_canonical k, shape_canonical v, shape_canonical_pairs ms)
-
 -- ---- a tree of this shape is what encoders write
 
 canonical_encoding-integer : (s : Sign) (n : ℕ) → n < 2 ^ 64
@@ -238,40 +193,52 @@ canonical_encoding-content byte_string content = refl
 canonical_encoding-content text_string content = refl
 
 mutual
-  pub canonical_of_shape : (t : Tree) → Loose t → CanonicalShape t → canonical_tree (value t) ≡ t
-  canonical_of_shape (int s n w) l h =
-      canonical_encoding-integer s n (argument_below w n l) ∙ ap (int s n) (sym h)
-  canonical_of_shape (string k w content) l h =
-      canonical_encoding-content k content ∙ ap (λ u. string k u content) (sym h)
-  canonical_of_shape (chunked k ts) l h = absurd h
-  canonical_of_shape (array w ts) l h =
-      ap₂ array (ap shortest_width (item_count-values ts) ∙ sym h.0) (canonical_of_shape_all ts l.1
-      h.1)
-  canonical_of_shape (array_indefinite ts) l h = absurd h
-  canonical_of_shape (map_of w ps) l h =
-      ap₂ map_of (ap shortest_width (pair_count-values ps) ∙ sym h.0)
-      (canonical_of_shape_pairs ps l.1 h.1)
-  canonical_of_shape (map_indefinite ps) l h = absurd h
-  canonical_of_shape (tagged n w t) l h = ap₂ (tagged n) (sym h.0) (canonical_of_shape t l.1 h.1)
-  canonical_of_shape (simple simple_undefined) l h = absurd (h refl)
-  canonical_of_shape _ l h = refl
-
-  canonical_of_shape_all : (ts : Trees) → LooseAll ts → CanonicalShapeAll ts → canonical_trees
-      (values ts) ≡ ts
-  canonical_of_shape_all no_trees l h = refl
-  canonical_of_shape_all (tree t ts) l h =
-      ap₂ tree (canonical_of_shape t l.0 h.0) (canonical_of_shape_all ts l.1 h.1)
-
-  canonical_of_shape_pairs : (ps : Pairs) → LoosePairs ps → CanonicalShapePairs ps
-      → canonical_pairs (pair_values_of ps) ≡ ps
-  canonical_of_shape_pairs no_pairs l h = refl
-  canonical_of_shape_pairs (pair k v ps) l h =
-      cc (
-        canonical_of_shape k l.0 h.0,
-        canonical_of_shape v l.1 h.1,
-        canonical_of_shape_pairs ps
-            l.2 h.2,
+  -- what is read canonically is an item, of which it is the tree
+  pub item_of_shape : (t : Tree) → Plain t → CanonicalShape t
+      → (canonical_tree (value t) ≡ t) × IsItem (value t)
+  item_of_shape (int s n w) p h =
+      let lt = argument_below w n p.0 in
+      (canonical_encoding-integer s n lt ∙ ap (int s n) (sym h), integer-value s n lt)
+  item_of_shape (string k w content) p h = (
+    canonical_encoding-content k content ∙ ap (λ u. string k u content) (sym h),
+    content-value k content p.1 (argument_below w (length content) p.0),
+  )
+  item_of_shape (chunked k ts) p h = absurd h
+  item_of_shape (array w ts) p h =
+      let c = item_count-values ts in
+      let r = items_of_shape ts (p.0.1, p.1) h.1 in (
+        ap₂ array (ap shortest_width c ∙ sym h.0) r.0,
+        (subst (λ n. n < 2 ^ 64) (sym c) (argument_below w (count ts) p.0.0), r.1),
       )
+  item_of_shape (array_indefinite ts) p h = absurd h
+  item_of_shape (map_of w ps) p h =
+      let c = pair_count-values ps in
+      let r = pairs_of_shape ps (p.0.1, p.1) h.1 in (
+        ap₂ map_of (ap shortest_width c ∙ sym h.0) r.0,
+        (subst (λ n. n < 2 ^ 64) (sym c) (argument_below w (pair_count ps) p.0.0), r.1),
+      )
+  item_of_shape (map_indefinite ps) p h = absurd h
+  item_of_shape (tagged n w t) p h =
+      let r = item_of_shape t (p.0.1, p.1) h.1 in
+      (ap₂ (tagged n) (sym h.0) r.0, (argument_below w n p.0.0, r.1))
+  item_of_shape (simple simple_undefined) p h = absurd (h refl)
+  item_of_shape (simple _) p h = (refl, tt)
+  item_of_shape (bits p n) l h = (refl, l.0)
+
+  items_of_shape : (ts : Trees) → LooseAll ts × SoundStringsAll ts → CanonicalShapeAll ts
+      → (canonical_trees (values ts) ≡ ts) × AreItems (values ts)
+  items_of_shape no_trees p h = (refl, tt)
+  items_of_shape (tree t ts) p h =
+      let a = item_of_shape t (p.0.0, p.1.0) h.0 in
+      let r = items_of_shape ts (p.0.1, p.1.1) h.1 in (ap₂ tree a.0 r.0, (a.1, r.1))
+
+  pairs_of_shape : (ps : Pairs) → LoosePairs ps × SoundStringsPairs ps → CanonicalShapePairs ps
+      → (canonical_pairs (pair_values_of ps) ≡ ps) × AreItemPairs (pair_values_of ps)
+  pairs_of_shape no_pairs p h = (refl, tt)
+  pairs_of_shape (pair k v ps) p h =
+      let a = item_of_shape k (p.0.0, p.1.0) h.0 in
+      let b = item_of_shape v (p.0.1, p.1.1) h.1 in
+      let r = pairs_of_shape ps (p.0.2, p.1.2) h.2 in (cc (a.0, b.0, r.0), (a.1, b.1, r.1))
 
 -- ---- what is encoded as encoders write has the shape
 
@@ -286,44 +253,26 @@ first_byte major n w b bs ys e = ap (λ z. get_or z 0 0) e
 -- of one argument and one first byte the head is one
 pub same_width : (major n : ℕ) (w u : Width) → HeadFits w n → HeadFits u n
     → 32 * major + additional w n ≡ 32 * major + additional u n → w ≡ u
-same_width major n w u h k e =
-    let low : additional w n ≡ additional u n = omega (arith, e) in
-    same_wide w u (sym (info-additional n w h) ∙ ap info_of low ∙ info-additional n u k)
+same_width major n w u h k e = search (rules, same_wide, info-additional)
 
 pub same_head : (major n : ℕ) (w : Width) (x y : List ℕ) → HeadFits w n
     → head major n w ++ x ≡ head major n (shortest_width n) ++ y → (w ≡ shortest_width n) × (x ≡ y)
 same_head major n w x y h e =
-    let k = shortest_fits n (argument_below w n h) in
-    let s = same_width major n w (shortest_width n) h k (first_byte major n (shortest_width n) _ _ y
-    e) in (
-      s,
-      append_cancel_left (head major n (shortest_width n)) x y
-          (ap (λ u. head major n u ++ x) (sym s) ∙ e),
-    )
+    search (rules, shortest_fits, argument_below, same_width, first_byte, append_cancel_left)
 
 -- the same of what is encoded after a head, whose argument an encoder gives
 same_headed : (major n : ℕ) (w : Width) (xs ys x y : List ℕ) {m k : ℕ} → HeadFits w n → m ≡ n
     → k ≡ n → (head major n w ++ xs) ++ x ≡ (head major m (shortest_width k) ++ ys) ++ y
     → (w ≡ shortest_width n) × (xs ++ x ≡ ys ++ y)
-same_headed major n w xs ys x y {m = m} {k = k} h p q e =
-    same_head major n w (xs ++ x) (ys ++ y) h (sym (append_assoc (head major n w) xs x) ∙ e
-    ∙ append_assoc (head major m (shortest_width k)) ys y
-    ∙ ap₂ (λ i j. head major i (shortest_width j) ++ (ys ++ y)) p q)
+same_headed major n w xs ys x y {m = m} {k = k} h p q e = search (rules, same_head, append_assoc)
 
 pub additional-shortest : (n : ℕ) → additional (shortest_width n) n < 28
-additional-shortest n =
-    let P : Width → Type 0 = λ w. additional w n < 28 in
-    if_cases P (ltb n 24) _ _ (λ e. let lt = ltb-true n 24 e in omega (arith, lt)) (λ _. if_cases P
-    (ltb n 256) _ _ (λ _. omega arith) (λ _. if_cases P (ltb n (256 ^ 2)) _ _ (λ _. omega arith)
-    (λ _. if_cases P (ltb n (256 ^ 4)) _ _ (λ _. omega arith) (λ _. omega arith))))
+additional-shortest n = search (rules, if_cases, ltb-true)
 
 not_indefinite : (major n : ℕ) (x ys y : List ℕ) {m : ℕ} → m ≡ n
     → indefinite_head major ∷ x ≡ (head major m (shortest_width n) ++ ys) ++ y → ⊥
 not_indefinite major n x ys y {m = m} p e =
-    let first = first_byte major n (shortest_width n) (indefinite_head major) x (ys ++ y) (e
-    ∙ append_assoc (head major m (shortest_width n)) ys y
-    ∙ ap (λ j. head major j (shortest_width n) ++ (ys ++ y)) p) in
-    omega (arith, first, additional-shortest n)
+    search (rules, first_byte, append_assoc, additional-shortest)
 
 mutual
   pub shape_of_canonical : (t : Tree) (x y : List ℕ) → Loose t
@@ -379,8 +328,8 @@ mutual
   shape_of_canonical_all no_trees x y l e = (tt, e)
   shape_of_canonical_all (tree t ts) x y l e =
       let trailing = bytes_all (canonical_trees (values ts)) in
-      let first = shape_of_canonical t (bytes_all ts ++ x) (trailing ++ y) l.0 (sym (append_assoc
-      (bytes t) (bytes_all ts) x) ∙ e ∙ append_assoc (canonical_encoding (value t)) trailing y) in
+      let first = shape_of_canonical t (bytes_all ts ++ x) (trailing ++ y) l.0
+      (simp append_assoc at e) in
       let rest = shape_of_canonical_all ts x y l.1 first.1 in
       ((first.0, rest.0), rest.1)
 
@@ -390,9 +339,8 @@ mutual
   shape_of_canonical_pairs no_pairs x y l e = (tt, e)
   shape_of_canonical_pairs (pair k v ps) x y l e =
       let trailing = bytes_pairs (canonical_pairs (pair_values_of ps)) in
-      let key = shape_of_canonical k (bytes v ++ (bytes_pairs ps ++ x)) (canonical_encoding (value
-      v) ++ (trailing ++ y)) l.0 (sym (pair_split (bytes k) (bytes v) (bytes_pairs ps) x) ∙ e ∙
-      pair_split (canonical_encoding (value k)) (canonical_encoding (value v)) trailing y) in
+      let key = shape_of_canonical k (bytes v ++ (bytes_pairs ps ++ x))
+      (canonical_encoding (value v) ++ (trailing ++ y)) l.0 (simp append_assoc at e) in
       let val = shape_of_canonical v (bytes_pairs ps ++ x) (trailing ++ y) l.1 key.1 in
       let rest = shape_of_canonical_pairs ps x y l.2 val.1 in
       ((key.0, val.0, rest.0), rest.1)
@@ -401,55 +349,20 @@ mutual
 pub shape_iff_canonical : (t : Tree) → Plain t →
     (CanonicalShape t ↔ (bytes t ≡ canonical_encoding (value t)))
 shape_iff_canonical t p = (
-  λ h. ap bytes (sym (canonical_of_shape t p.0 h)),
+  λ h. ap bytes (sym (item_of_shape t p h).0),
   λ e. (shape_of_canonical t [] [] p.0 (ap (λ r. r ++ []) e)).0,
 )
-
--- ---- what is read canonically
-
-mutual
-  pub item_of_shape : (t : Tree) → Loose t → SoundStrings t → CanonicalShape t → IsItem (value t)
-  item_of_shape (int s n w) l u h = integer-value s n (argument_below w n l)
-  item_of_shape (string k w content) l u h =
-      content-value k content u (argument_below w (length content) l)
-  item_of_shape (chunked k ts) l u h = absurd h
-  item_of_shape (array w ts) l u h = (
-    subst (λ n. n < 2 ^ 64) (sym (item_count-values ts)) (argument_below w (count ts) l.0),
-    items_of_shape ts l.1 u h.1,
-  )
-  item_of_shape (array_indefinite ts) l u h = absurd h
-  item_of_shape (map_of w ps) l u h = (
-    subst (λ n. n < 2 ^ 64) (sym (pair_count-values ps))
-        (argument_below w (pair_count ps) l.0),
-    pairs_of_shape ps l.1 u h.1,
-  )
-  item_of_shape (map_indefinite ps) l u h = absurd h
-  item_of_shape (tagged n w t) l u h = (argument_below w n l.0, item_of_shape t l.1 u h.1)
-  item_of_shape (simple simple_false) l u h = tt
-  item_of_shape (simple _) l u h = tt
-  item_of_shape (bits p n) l u h = l
-
-  items_of_shape : (ts : Trees) → LooseAll ts → SoundStringsAll ts → CanonicalShapeAll ts
-      → AreItems (values ts)
-  items_of_shape no_trees l u h = tt
-  items_of_shape (tree t ts) l u h = (item_of_shape t l.0 u.0 h.0, items_of_shape ts l.1 u.1 h.1)
-
-  pairs_of_shape : (ps : Pairs) → LoosePairs ps → SoundStringsPairs ps → CanonicalShapePairs ps
-      → AreItemPairs (pair_values_of ps)
-  pairs_of_shape no_pairs l u h = tt
-  pairs_of_shape (pair k v ps) l u h =
-      (item_of_shape k l.0 u.0 h.0, item_of_shape v l.1 u.1 h.1, pairs_of_shape ps l.2 u.2 h.2)
 
 -- what is encoded so is the canonical encoding of a value that reading gives, at its cost
 pub canonically_encoded : (encoding : List ℕ) (v : Item) (steps : ℕ) → EncodesCanonically encoding
     v steps
     → IsDecoded v × (encoding ≡ canonical_encoding v) × (steps ≡ canonical_cost v)
 canonically_encoded encoding v steps s =
-    let same = ap canonical_tree (sym s.value_is)
-    ∙ canonical_of_shape s.of_tree s.canonical.0.0 s.canonical.1 in
-    let p = s.canonical.0 in (
+    let p = s.canonical.0 in
+    let shaped = item_of_shape s.of_tree p s.canonical.1 in
+    let same = ap canonical_tree (sym s.value_is) ∙ shaped.0 in (
       (
-        subst IsItem s.value_is (item_of_shape s.of_tree p.0 p.1 s.canonical.1),
+        subst IsItem s.value_is shaped.1,
         subst (λ w. with_bignums w ≡ w) s.value_is (with_bignums-value s.of_tree p.0),
       ),
       sym s.bytes_are ∙ ap bytes (sym same),
@@ -461,7 +374,7 @@ pub written_canonically : (v : Item) → IsItem v → EncodesCanonically (canoni
     (with_bignums v) (canonical_cost v)
 written_canonically v h = record {
   of_tree = canonical_tree v;
-  canonical = ((loose_canonical v h, sound_canonical v h), shape_canonical v);
+  canonical = is_canonical v h;
   bytes_are = refl;
   value_is = value-canonical_encoding v;
   cost_is = refl;
@@ -470,9 +383,7 @@ written_canonically v h = record {
 -- the canonical encoding of a value that reading gives is one
 pub canonical_canonically : (v : Item) → IsDecoded v → EncodesCanonically (canonical_encoding v) v
     (canonical_cost v)
-canonical_canonically v h =
-    subst (λ w. EncodesCanonically (canonical_encoding v) w (canonical_cost v)) h.1
-    (written_canonically v h.0)
+canonical_canonically v h = search (rules, written_canonically)
 
 pub reads_canonically_iff : (input : List ℕ) (budget : Budget) (v : Item) (rest : List ℕ)
     → DecodesCanonically input budget v rest

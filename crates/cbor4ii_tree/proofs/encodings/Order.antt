@@ -1,4 +1,5 @@
 -- How canonical encodings compare: as their heads do, and then as what follows.
+use Rattle.std.proofs.Common.{rules}
 use Rattle.std.proofs.Common.{◌≡◌, ◌≢◌, ℕ, zero, suc, ◌+◌, ◌*◌, ◌/◌, ◌%◌, ◌^◌, ◌<◌, ◌≤◌, List, []}
 use Rattle.std.proofs.Common.{◌∷◌, ◌++◌, length, Bool, true, false, cond, refl, sym, ap, ap₂, ◌∙◌}
 use Rattle.std.proofs.Common.{subst, subst₂, arith, append_assoc, append-nil, ltb, ltb-true, pos}
@@ -45,11 +46,7 @@ compares_alone {r} {s} {t} c =
 
 pub compares_then : {r o : Ordering} {s t u v : List ℕ} → Compares r s t → Compares o u v
     → Compares (ordering_then r o) (s ++ u) (t ++ v)
-compares_then {r} {o} {s} {t} {u} {v} a b = record {
-  before = λ x y.
-      ap₂ (slice_cmp nat_cmp) (append_assoc s u x) (append_assoc t v y) ∙ a.before (u ++ x) (v ++ y)
-      ∙ ap (ordering_then r) (b.before x y) ∙ sym (then_assoc r o (slice_cmp nat_cmp x y));
-}
+compares_then {r} {o} {s} {t} {u} {v} a b = search (rules, append_assoc, then_assoc)
 
 decides : (r : Ordering) → r ≢ Equal → (o p : Ordering) → ordering_then r o ≡ ordering_then r p
 decides Equal n o p = absurd (n refl)
@@ -58,11 +55,7 @@ decides _ n o p = refl
 -- what differs decides
 pub compares_first : {r : Ordering} {s t : List ℕ} (u v : List ℕ) → r ≢ Equal → Compares r s t
     → Compares r (s ++ u) (t ++ v)
-compares_first {r} {s} {t} u v n a = record {
-  before = λ x y.
-      ap₂ (slice_cmp nat_cmp) (append_assoc s u x) (append_assoc t v y) ∙ a.before (u ++ x) (v ++ y)
-      ∙ decides r n (slice_cmp nat_cmp (u ++ x) (v ++ y)) (slice_cmp nat_cmp x y);
-}
+compares_first {r} {s} {t} u v n a = search (rules, append_assoc, decides)
 
 pub compares_nothing : Compares Equal [] []
 compares_nothing = record { before = λ x y. refl }
@@ -90,11 +83,7 @@ nat_cmp-same n m e = sym (nat_cmp_is n m Equal e)
 
 pub compares_cons : (b c : ℕ) {r : Ordering} {s t : List ℕ} → (b ≡ c → Compares r s t)
     → Compares (ordering_then (nat_cmp b c) r) (b ∷ s) (c ∷ t)
-compares_cons b c {r} {s} {t} h = record {
-  before = λ x y.
-      first_then (nat_cmp b c) r (slice_cmp nat_cmp (s ++ x) (t ++ y)) (slice_cmp nat_cmp x y)
-      (λ e. (h (nat_cmp-Equal b c e)).before x y);
-}
+compares_cons b c {r} {s} {t} h = search (rules, first_then, nat_cmp-Equal)
 
 -- bytes of one length
 pub compares_bytes : (s t : List ℕ) → length s ≡ length t → Compares (slice_cmp nat_cmp s t) s t
@@ -124,18 +113,11 @@ digits_by Greater q p r t unit h k l =
 
 byte_up : (k n : ℕ) → byte_at k n * 256 ^ k + n % 256 ^ k ≡ n % 256 ^ suc k
 byte_up zero n = omega arith
-byte_up (suc k) n =
-    let unit = 256 ^ suc k in
-    let wider : 256 ^ suc (suc k) ≡ 256 * unit = pow-suc 256 (suc k) ∙ mul_comm unit 256 in
-    let some : 0 < unit =
-    pow-le-pow_right {n = 256} (omega arith) {i = 0} {j = suc k} (omega arith) in
-    rw (wider, mod-mul n {m = 256} {c = unit} (omega arith) some) (omega arith)
+byte_up (suc k) n = search (rules, pow-suc, mul_comm, pow-le-pow_right, mod-mul)
 
 low_digits : (k n m : ℕ) → Compares (nat_cmp (n % 256 ^ k) (m % 256 ^ k)) (bytes_high_first k n)
     (bytes_high_first k m)
-low_digits zero n m =
-    subst (λ o. Compares o [] [])
-    (sym (nat_cmp-same (n % 256 ^ 0) (m % 256 ^ 0) (omega arith))) compares_nothing
+low_digits zero n m = search (rules, nat_cmp-same, compares_nothing)
 low_digits (suc k) n m =
     subst (λ o. Compares o (bytes_high_first (suc k) n) (bytes_high_first (suc k) m))
     (sym (digits_by (nat_cmp (byte_at k n) (byte_at k m)) (byte_at k n) (byte_at k m) (n % 256 ^ k)
@@ -198,14 +180,7 @@ record Headed (encoding : List ℕ) (parts : ℕ × ℕ) (after : List ℕ) : Ty
 
 headed_by : (major n : ℕ) (w : Width) (after : List ℕ) → HeadFits w n
     → Headed (head major n w ++ after) (initial_byte major n w, n) after
-headed_by major n w after h = record {
-  major = major;
-  argument = n;
-  wide = w;
-  fits = h;
-  parts_are = refl;
-  is = refl;
-}
+headed_by major n w after h = search rules
 
 headed_as : {s t after : List ℕ} {parts : ℕ × ℕ} → s ≡ t → Headed s parts after
     → Headed t parts after
@@ -216,11 +191,8 @@ headed_integer : (s : Sign) (n : ℕ) (b : Bool) → ltb n (2 ^ 64) ≡ b
     (cond b (shortest_parts (sign_major s) n) (shortest_parts 6 (sign_tag s)))
     (cond b [] (definite_string 2 (magnitude n)))
 headed_integer s n true e =
-    headed_as (append-nil _) (headed_by (sign_major s) n (shortest_width n) []
-    (shortest_fits n (ltb-true n (2 ^ 64) e)))
-headed_integer s n false e =
-    headed_by 6 (sign_tag s) (shortest_width (sign_tag s)) (definite_string 2 (magnitude n))
-    (tag_fits s)
+    search (rules, headed_as, append-nil, headed_by, shortest_fits, ltb-true)
+headed_integer s n false e = search (rules, headed_by, tag_fits)
 
 headed : (v : Item) → HasHead v → Headed (canonical_encoding v) (head_of v) (after_head v)
 headed null h = headed_by 7 22 in_first [] (omega arith)
@@ -236,16 +208,9 @@ headed (bytes_item bs) h =
 headed (text bs) h =
     headed_by 3 (length bs) (shortest_width (length bs)) bs (shortest_fits (length bs) h)
 headed (sequence vs) h =
-    headed_as (ap (λ c. head 4 c (shortest_width (item_count vs)) ++ bytes_all (canonical_trees vs))
-    (sym
-    (count-canonical_encoding vs))) (headed_by 4 (item_count vs) (shortest_width (item_count vs))
-    (bytes_all (canonical_trees vs)) (shortest_fits (item_count vs) h))
+    rw (count-canonical_encoding vs) (headed_by 4 (item_count vs) _ _ (shortest_fits _ h))
 headed (mapping ms) h =
-    headed_as (ap (λ c. head 5 c (shortest_width (item_pair_count ms)) ++ bytes_pairs
-    (canonical_pairs ms))
-    (sym (count-pairs ms))) (headed_by 5 (item_pair_count ms) (shortest_width (item_pair_count ms))
-    (bytes_pairs
-    (canonical_pairs ms)) (shortest_fits (item_pair_count ms) h))
+    rw (count-pairs ms) (headed_by 5 (item_pair_count ms) _ _ (shortest_fits _ h))
 headed (tag n v) h = headed_by 6 n (shortest_width n) (canonical_encoding v) (shortest_fits n h)
 
 -- how the program compares heads
@@ -254,9 +219,7 @@ heads_cmp p q = ordering_then (nat_cmp p.0 q.0) (nat_cmp p.1 q.1)
 
 headed_heads : {s t x y : List ℕ} {p q : ℕ × ℕ} (a : Headed s p x) (b : Headed t q y)
     → Compares (heads_cmp p q) (head a.major a.argument a.wide) (head b.major b.argument b.wide)
-headed_heads a b =
-    subst₂ (λ p q. Compares (heads_cmp p q) (head a.major a.argument a.wide) (head b.major
-    b.argument b.wide)) a.parts_are b.parts_are (compares_heads _ _ _ _ _ _ a.fits b.fits)
+headed_heads a b = search (rules, subst₂, compares_heads)
 
 -- where the heads differ
 pub other_heads : (v w : Item) (r : Ordering) → HasHead v → HasHead w
@@ -375,9 +338,5 @@ tag_by s n false e = refl
 -- the byte string of a bignum follows its tag
 pub after_tag : (z : ℤ) (parts : ℕ × ℕ) → PartsOf z parts → major_of (integer z) ≡ 6
     → after_head (integer z) ≡ definite_string 2 (magnitude parts.1)
-after_tag z parts (inl e) h =
-    ap (λ y. after_head (integer y)) e.0
-    ∙ tag_by unsigned parts.1 (ltb parts.1 (2 ^ 64)) (ap (λ y. major_of (integer y)) (sym e.0) ∙ h)
-after_tag z parts (inr e) h =
-    ap (λ y. after_head (integer y)) e.0
-    ∙ tag_by negative parts.1 (ltb parts.1 (2 ^ 64)) (ap (λ y. major_of (integer y)) (sym e.0) ∙ h)
+after_tag z parts (inl e) h = search (rules, tag_by)
+after_tag z parts (inr e) h = search (rules, tag_by)

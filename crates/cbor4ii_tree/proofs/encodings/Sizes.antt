@@ -12,7 +12,7 @@ use Rattle.cbor4ii_tree.specs.Basis.Tree.{map_of, map_indefinite, tagged, simple
 use Rattle.cbor4ii_tree.specs.Basis.Tree.{no_trees, tree, Pairs, no_pairs, pair, count, pair_count}
 use Rattle.cbor4ii_tree.specs.Basis.Tree.{bytes, bytes_all, bytes_pairs, joined_chunks, Loose}
 use Rattle.cbor4ii_tree.specs.Basis.Tree.{LooseAll, LoosePairs, SoundStrings, SoundStringsAll}
-use Rattle.cbor4ii_tree.specs.Basis.Tree.{SoundStringsPairs, TextIsUtf8, IsChunk, AreChunks}
+use Rattle.cbor4ii_tree.specs.Basis.Tree.{SoundStringsPairs, TextIsUtf8, AreChunks}
 use Rattle.cbor4ii_tree.specs.Basis.Canonical.{canonical_tree, canonical_trees, canonical_pairs}
 use Rattle.cbor4ii_tree.specs.{Basis.Canonical.integer_tree, Basis.Cost.{cost, chunks_cost}}
 use Rattle.cbor4ii_tree.specs.Basis.Cost.{greatest_cost, greatest_pair_cost, skip_cost}
@@ -20,13 +20,10 @@ use Rattle.cbor4ii_tree.specs.Basis.Cost.{greatest_skip_cost, greatest_pair_skip
 
 -- ---- skipping takes no more steps than reading, and the canonical encoding no more than any other
 
-skip_cost-chunk : (k : Kind) (t : Tree) → IsChunk k t → skip_cost t ≤ 1
-skip_cost-chunk k (string j w content) h = omega arith
-skip_cost-chunk k _ h = absurd h
-
 skip_cost-chunks : (k : Kind) (ts : Trees) → AreChunks k ts → greatest_skip_cost ts ≤ 1
 skip_cost-chunks k no_trees h = omega arith
-skip_cost-chunks k (tree t ts) h = omega (arith, skip_cost-chunk k t h.0, skip_cost-chunks k ts h.1)
+skip_cost-chunks k (tree (string j w content) ts) h = omega (arith, skip_cost-chunks k ts h.1)
+skip_cost-chunks k (tree _ ts) h = absurd h.0
 
 skip_cost-chunked : (k : Kind) (ts : Trees) → AreChunks k ts
     → 1 + greatest_skip_cost ts ≤ chunks_cost ts

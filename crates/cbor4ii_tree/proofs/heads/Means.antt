@@ -1,7 +1,7 @@
 -- What an initial byte says, read backwards.
 use Rattle.std.proofs.Common.{◌≡◌, ℕ, zero, suc, ◌+◌, ◌*◌, ◌/◌, ◌%◌, ◌<◌, List, ◌∷◌, ◌++◌, sym, ap}
-use Rattle.std.proofs.Common.{ap₂, ◌∙◌, arith, ltb, eqb, ltb-true, eqb-true, subst, ◌^◌, [], length}
-use Rattle.std.proofs.Common.{take, drop, refl, false, ltb-false, take-append-drop}
+use Rattle.std.proofs.Common.{ap₂, ◌∙◌, arith, ltb, ltb-true, eqb-true, ◌^◌, [], length, take, drop}
+use Rattle.std.proofs.Common.{refl, false, ltb-false, take-append-drop, rules}
 use Rattle.std.proofs.lemmas.List.{length-take-le}
 use Rattle.cbor4ii_items.specs.Head.{Width, in_first, one, two, four, eight, HeadFits, additional}
 use Rattle.cbor4ii_items.specs.{Head.{byte_count, head, indefinite_head, IsBytes}, Initial.Sign}
@@ -39,12 +39,8 @@ pub record Content (k : ℕ) (bs : List ℕ) (p : List ℕ × List ℕ) : Type 0
 
 content_of : (k : ℕ) (bs : List ℕ) → IsBytes bs → ltb (length bs) k ≡ false
     → Content k bs (take k bs, drop k bs)
-content_of k bs h e = record {
-  is = sym (take-append-drop k bs);
-  long = length-take-le k bs (ltb-false (length bs) k e);
-  bytes = IsBytes-take k bs h;
-  more = IsBytes-drop k bs h;
-}
+content_of k bs h e =
+    search (rules, take-append-drop, length-take-le, ltb-false, IsBytes-take, IsBytes-drop)
 
 pub prefix_meets : (name : List ℕ) (k : ℕ) (bs : List ℕ) → IsBytes bs
     → Meets (Content k bs) (Missing name k bs) (prefix_at name k bs)
@@ -55,10 +51,7 @@ prefix_meets name k bs h =
 
 pub number_of_bytes : (k : ℕ) (xs : List ℕ) → length xs ≡ k → IsBytes xs
     → (bytes_high_first k (number_of xs) ≡ xs) × (number_of xs < 256 ^ k)
-number_of_bytes k xs e h = (
-  ap (λ j. bytes_high_first j (number_of xs)) (sym e) ∙ bytes_onto xs 0 h,
-  subst (λ j. number_of xs < 256 ^ j) e (onto-lt xs h),
-)
+number_of_bytes k xs e h = search (rules, bytes_onto, onto-lt)
 
 pub record Whole (k n : ℕ) (bs after : List ℕ) : Type 0 where
   pub is : bs ≡ bytes_high_first k n ++ after
@@ -107,23 +100,10 @@ Means b (starts_bits p) = b ≡ precision_byte p
 Means b _ = Unit {0}
 
 pub info_says : (i : ℕ) → InfoSays i (info_of i)
-info_says i =
-    let P = InfoSays i in
-    if_cases P (ltb i 24) _ _ (λ h. ltb-true i 24 h) (λ _. if_cases P (eqb i 24) _ _ (λ h. eqb-true
-    i 24 h) (λ _. if_cases P (eqb i 25) _ _ (λ h. eqb-true i 25 h) (λ _. if_cases P (eqb i 26) _ _
-    (λ h. eqb-true i 26 h) (λ _. if_cases P (eqb i 27) _ _ (λ h. eqb-true i 27 h) (λ _. if_cases P
-    (eqb i 31) _ _ (λ h. eqb-true i 31 h) (λ _. tt))))))
+info_says i = search (rules, if_cases, ltb-true, eqb-true)
 
 simple_says : (i b : ℕ) → b ≡ 224 + i → Means b (simple_by_info i)
-simple_says i b e =
-    let P = Means b in
-    if_cases P (eqb i 20) _ _ (λ h. omega (arith, eqb-true i 20 h))
-    (λ _. if_cases P (eqb i 21) _ _ (λ h. omega (arith, eqb-true i 21 h))
-    (λ _. if_cases P (eqb i 22) _ _ (λ h. omega (arith, eqb-true i 22 h))
-    (λ _. if_cases P (eqb i 23) _ _ (λ h. omega (arith, eqb-true i 23 h))
-    (λ _. if_cases P (eqb i 25) _ _ (λ h. omega (arith, eqb-true i 25 h))
-    (λ _. if_cases P (eqb i 26) _ _ (λ h. omega (arith, eqb-true i 26 h))
-    (λ _. if_cases P (eqb i 27) _ _ (λ h. omega (arith, eqb-true i 27 h)) (λ _. tt)))))))
+simple_says i b e = search (rules, if_cases, eqb-true)
 
 int_says : (s : Sign) (i b : ℕ) (info : Info) → b ≡ 32 * sign_major s + i → InfoSays i info
     → Means b (int_by_info s info)
@@ -182,22 +162,10 @@ pub argument_meets : (asks : ℕ → ℕ → ℕ) (name : List ℕ) (major : ℕ
     → Meets (λ p. Headed major p.0 w b bs p.1) (Lacks asks name (byte_count w) bs)
     (parse_argument asks name w b bs)
 unfolding parse_argument
-argument_meets asks name major in_first b bs h m =
-    let low : b % 32 ≡ m.0 = omega (arith, m.1, m.2) in
-    ok_meets _ (record {
-      is = ap (λ c. c ∷ bs) (m.1 ∙ ap (λ i. 32 * major + i) (sym low));
-      fits = omega (arith, m.2);
-      more = h;
-    })
-argument_meets asks name major one b bs h m =
-    map_meets (number_meets asks name 1 bs h) (λ p whole. headed major p.0 one b bs p.1
-    (m.1 ∙ ap (λ j. 32 * major + j) m.2) (omega (arith, whole.below)) whole) (λ e rest f. f)
-argument_meets asks name major two b bs h m =
-    map_meets (number_meets asks name 2 bs h) (λ p whole. headed major p.0 two b bs p.1
-    (m.1 ∙ ap (λ j. 32 * major + j) m.2) whole.below whole) (λ e rest f. f)
+argument_meets asks name major in_first b bs h m = search (rules, ok_meets)
+argument_meets asks name major one b bs h m = search (rules, map_meets, number_meets, headed, one)
+argument_meets asks name major two b bs h m = search (rules, map_meets, number_meets, headed, two)
 argument_meets asks name major four b bs h m =
-    map_meets (number_meets asks name 4 bs h) (λ p whole. headed major p.0 four b bs p.1
-    (m.1 ∙ ap (λ j. 32 * major + j) m.2) whole.below whole) (λ e rest f. f)
+    search (rules, map_meets, number_meets, headed, four)
 argument_meets asks name major eight b bs h m =
-    map_meets (number_meets asks name 8 bs h) (λ p whole. headed major p.0 eight b bs p.1
-    (m.1 ∙ ap (λ j. 32 * major + j) m.2) whole.below whole) (λ e rest f. f)
+    search (rules, map_meets, number_meets, headed, eight)

@@ -167,12 +167,8 @@ filled_items Good g n prefix after lt l f =
       each-join Good prefix back l (f.good, each-noughts Good g (n - suc (count prefix))),
       f.more ++ bytes_all last,
       then_some f.more (bytes_all last) f.some (noughts_bytes (n - suc (count prefix))),
-      bytes_all-join prefix back ∙ ap (λ r. bytes_all prefix ++ (r ++ bytes_all last)) f.is
-          ∙ regroup (bytes_all prefix) after f.more (bytes_all last),
+      rw (bytes_all-join prefix back, f.is) (simp append_assoc),
     )
-  where
-    regroup : (a b c d : List ℕ) → a ++ ((b ++ c) ++ d) ≡ (a ++ b) ++ (c ++ d)
-    regroup a b c d = simp append_assoc
 
 -- an even list of trees as pairs
 pub paired : (Good : Tree → Type 0) (n : ℕ) (ts : Trees) → count ts ≡ 2 * n → Each Good ts
@@ -213,10 +209,8 @@ indefinite_prefix Good rejects g bs prefix (b ∷ after) e rest h eo l is st =
       each-join Good prefix (tree t.whole no_trees) l (t.good, tt),
       t.more ++ break ∷ [],
       then_some t.more (break ∷ []) t.some break_some.1,
-      ap (λ r. r ++ break ∷ []) (bytes_all-join prefix (tree t.whole no_trees)
-          ∙ ap (λ r. bytes_all prefix ++ (r ++ [])) t.is)
-          ∙ regroup (bytes_all prefix) (b ∷ after) t.more
-          ∙ ap (λ r. r ++ (t.more ++ break ∷ [])) (sym is),
+      rw (bytes_all-join prefix (tree t.whole no_trees), t.is, is)
+          (regroup (bytes_all prefix) (b ∷ after) t.more),
     )
   where
     regroup : (a c d : List ℕ)
@@ -235,17 +229,8 @@ indefinite_pair Good bs prefix after k v more l lk lv is some e =
       each-join_pairs Good prefix last l (lk, lv, tt),
       more ++ break ∷ [],
       then_some more (break ∷ []) some break_some.1,
-      ap (λ r. r ++ break ∷ []) (bytes_pairs-join prefix last) ∙ regroup (bytes_pairs prefix)
-          (bytes k) (bytes v) ∙ ap (λ r. bytes_pairs prefix ++ (r ++ break ∷ [])) e
-          ∙ regroup2 (bytes_pairs prefix) after more ∙ ap (λ r. r ++ (more ++ break ∷ [])) (sym is),
+      rw (bytes_pairs-join prefix last, append-nil (bytes v), e, is) (simp append_assoc),
     )
-  where
-    regroup : (a b c : List ℕ)
-        → (a ++ (b ++ (c ++ []))) ++ break ∷ [] ≡ a ++ ((b ++ c) ++ break ∷ [])
-    regroup a b c = simp (append_assoc, append-nil)
-
-    regroup2 : (a b c : List ℕ) → a ++ ((b ++ c) ++ break ∷ []) ≡ (a ++ b) ++ (c ++ break ∷ [])
-    regroup2 a b c = simp append_assoc
 
 pub indefinite_pairs_prefix : (Good Whole : Tree → Type 0) (rejects : Rejection) → Good nought
     → ((t : Tree) → Whole t → Good t) → Prefixes Good rejects → (bs : List ℕ) (prefix : Pairs)

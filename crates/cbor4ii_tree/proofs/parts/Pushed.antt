@@ -1,9 +1,9 @@
 -- One more item after others, and one more pair.
-use Rattle.std.proofs.Common.{◌≡◌, ℕ, ◌+◌, ◌*◌, List, [], ◌++◌, refl, sym, ap, ◌∙◌, arith}
-use Rattle.std.proofs.Common.{append_assoc}
-use Rattle.cbor4ii_tree.specs.{Calls.Rejections.{Each, EachPair}, Basis.Tree.{Tree, Trees}}
-use Rattle.cbor4ii_tree.specs.Basis.Tree.{no_trees, tree, Pairs, no_pairs, pair, count, pair_count}
-use Rattle.cbor4ii_tree.specs.Basis.Tree.{bytes, bytes_all, bytes_pairs}
+use Rattle.std.proofs.Common.{◌≡◌, ℕ, ◌+◌, ◌*◌, List, [], ◌++◌, refl, ap, ◌∙◌, arith, append_assoc}
+use Rattle.std.proofs.Common.{rules}
+use Rattle.cbor4ii_tree.specs.Basis.Tree.{Tree, Trees, no_trees, tree, Pairs, no_pairs, pair, count}
+use Rattle.cbor4ii_tree.specs.Basis.Tree.{pair_count, bytes, bytes_all, bytes_pairs}
+use Rattle.cbor4ii_tree.specs.Calls.Rejections.{Each, EachPair}
 
 -- ---- items after others, and pairs after others
 
@@ -24,9 +24,7 @@ each-join W (tree t ts) us h k = (h.0, each-join W ts us h.1 k)
 pub bytes_all-join : (ts us : Trees) → bytes_all (join ts us) ≡ bytes_all ts ++ bytes_all us
 unfolding join
 bytes_all-join no_trees us = refl
-bytes_all-join (tree t ts) us =
-    ap (λ r. bytes t ++ r) (bytes_all-join ts us)
-    ∙ sym (append_assoc (bytes t) (bytes_all ts) (bytes_all us))
+bytes_all-join (tree t ts) us = search (rules, append_assoc, (bytes_all-join ts us))
 
 pub bytes-join : (ts us : Trees) (x : List ℕ)
     → bytes_all (join ts us) ++ x ≡ bytes_all ts ++ (bytes_all us ++ x)
@@ -67,9 +65,7 @@ pub bytes-push : (ts : Trees) (t : Tree) (x : List ℕ)
     → bytes_all (push ts t) ++ x ≡ bytes_all ts ++ (bytes t ++ x)
 unfolding push
 bytes-push no_trees t x = append_assoc (bytes t) [] x
-bytes-push (tree u us) t x =
-    append_assoc (bytes u) (bytes_all (push us t)) x ∙ ap (λ r. bytes u ++ r) (bytes-push us t x)
-    ∙ sym (append_assoc (bytes u) (bytes_all us) (bytes t ++ x))
+bytes-push (tree u us) t x = search (rules, append_assoc, (bytes-push us t x))
 
 -- the keys and the values, in turn
 unfoldable pub flat : Pairs → Trees

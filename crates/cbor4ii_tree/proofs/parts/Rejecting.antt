@@ -1,4 +1,5 @@
 -- What is skipped and what is rejected, put together of its parts.
+use Rattle.std.proofs.Common.{rules}
 use Rattle.std.proofs.Common.{◌≡◌, ℕ, ◌<◌, ◌⊎◌, inl, inr, List, ◌∷◌, ◌++◌, Bool, true, false, refl}
 use Rattle.cbor4ii_items.specs.{Budget.CostFits, Head.{Width, HeadFits, head}}
 use Rattle.cbor4ii_tree.specs.{Basis.Cost.{Budget, skip_cost}, Basis.Encodings.Skips}
@@ -43,14 +44,7 @@ either false f g x = f x
 module _ {W : Tree → Type 0} {s : Rejection} {bs : List ℕ} {e : InputError} {rest : List ℕ} where
   pub in_count : {n : ℕ} (prefix : Trees) (after : List ℕ) → count prefix < n → Each W prefix
       → bs ≡ bytes_all prefix ++ after → s after e rest → RejectsInCount W s n bs e rest
-  in_count ts after few whole is rejected = record {
-    prefix = ts;
-    after = after;
-    few = few;
-    whole = whole;
-    is = is;
-    rejected = rejected;
-  }
+  in_count ts after few whole is rejected = search rules
 
   pub in_items : (prefix : Trees) (after : List ℕ) → Each W prefix
       → bs ≡ bytes_all prefix ++ after → NoBreak s after e rest → IndefiniteItems W s bs e rest

@@ -1,4 +1,5 @@
 -- Where whole items stand before one that is rejected, the sequence is rejected.
+use Rattle.std.proofs.Common.{rules}
 use Rattle.std.proofs.Common.{◌≡◌, ℕ, zero, suc, ◌*◌, ◌<◌, ◌≤◌, ◌⊎◌, inl, inr, List, [], ◌∷◌, ◌++◌}
 use Rattle.std.proofs.Common.{length, Err, ap, ◌∙◌, arith, lt-ltb, ne_eqb, subst, append_assoc}
 use Rattle.std.proofs.{Common.{length-append, refl, sym, ap₂, eqb, eqb-true}, lemmas.Bool.eqb-false}
@@ -67,16 +68,6 @@ fewer : {Whole : Tree → Type 0} (bs : List ℕ) (p : Tree × List ℕ) → Too
     → suc (length p.1) ≤ length bs
 fewer bs p t = omega (arith, ap length t.is, length-append (bytes p.0) p.1, length-bytes-pos p.0)
 
-regroup : (a b c x : List ℕ) → a ++ (b ++ (c ++ x)) ≡ (a ++ (b ++ c)) ++ x
-regroup a b c x = simp append_assoc
-
-regroup_all : (a b x : List ℕ) → a ++ ((b ++ break ∷ []) ++ x) ≡ ((a ++ b) ++ break ∷ []) ++ x
-regroup_all a b x = simp append_assoc
-
-regroup_pairs : (a b c x : List ℕ)
-    → a ++ (b ++ ((c ++ break ∷ []) ++ x)) ≡ ((a ++ (b ++ c)) ++ break ∷ []) ++ x
-regroup_pairs a b c x = simp append_assoc
-
 module _ (item : Parser Tree) (Whole : Tree → Type 0) (rejects : Rejection) (bound : ℕ)
     (d : Decides item Whole rejects bound) where
   pub trees_meet : (n : ℕ) (bs : List ℕ) → IsBytes bs → length bs < bound
@@ -92,8 +83,8 @@ module _ (item : Parser Tree) (Whole : Tree → Type 0) (rejects : Rejection) (b
         is = one.is ∙ ap (λ r. bytes t ++ r) all.is ∙ sym (append_assoc (bytes t) (bytes_all ts) y);
         more = all.more;
       })) (λ e rest all. in_count (tree t all.prefix) all.after (omega (arith, all.few))
-      (one.whole, all.whole) (one.is ∙ ap (λ r. bytes t ++ r) all.is
-      ∙ sym (append_assoc (bytes t) (bytes_all all.prefix) all.after)) all.rejected))
+      (one.whole, all.whole) (rw (one.is, all.is) (simp append_assoc))
+      all.rejected))
       (λ e rest f. in_count no_trees bs (omega arith) tt refl f)
 
   pub pairs_meet : (n : ℕ) (bs : List ℕ) → IsBytes bs → length bs < bound
@@ -108,13 +99,11 @@ module _ (item : Parser Tree) (Whole : Tree → Type 0) (rejects : Rejection) (b
       (record {
         number = ap suc all.number;
         whole = (key.whole, val.whole, all.whole);
-        is = key.is ∙ ap (λ r. bytes k ++ r) (val.is ∙ ap (λ r. bytes v ++ r) all.is)
-            ∙ regroup (bytes k) (bytes v) (bytes_pairs ps) z;
+        is = rw (key.is, val.is, all.is) (simp append_assoc);
         more = all.more;
       })) (λ e rest all. in_count (tree k (tree v all.prefix)) all.after (omega (arith, all.few))
-      (key.whole, (val.whole, all.whole)) (key.is ∙ ap (λ r. bytes k ++ r)
-      (val.is ∙ ap (λ r. bytes v ++ r) all.is)
-      ∙ regroup (bytes k) (bytes v) (bytes_all all.prefix) all.after) all.rejected))
+      (key.whole, (val.whole, all.whole)) (rw (key.is, val.is, all.is) (simp append_assoc))
+      all.rejected))
       (λ e rest f. in_count (tree k no_trees) x (omega arith) (key.whole, tt)
       (key.is ∙ sym (append_assoc (bytes k) [] x)) f))
       (λ e rest f. in_count no_trees bs (omega arith) tt refl f)
@@ -133,11 +122,11 @@ module _ (item : Parser Tree) (Whole : Tree → Type 0) (rejects : Rejection) (b
       then_meets (indefinite_trees_meet n x one.more (omega (arith, less)) (omega (arith, less)))
       (λ ts y all. ok_meets _ (record {
         whole = (one.whole, all.whole);
-        is = one.is ∙ ap (λ r. bytes t ++ r) all.is ∙ regroup_all (bytes t) (bytes_all ts) y;
+        is = rw (one.is, all.is) (simp append_assoc);
         more = all.more;
       })) (λ e rest all. in_items (tree t all.prefix) all.after (one.whole, all.whole)
-      (one.is ∙ ap (λ r. bytes t ++ r) all.is
-      ∙ sym (append_assoc (bytes t) (bytes_all all.prefix) all.after)) all.rejected))
+      (rw (one.is, all.is) (simp append_assoc))
+      all.rejected))
       (λ e rest f. in_items no_trees (b ∷ bs) tt refl (eqb-false b break no, f)))
 
   pub indefinite_pairs_meet : (n : ℕ) (bs : List ℕ) → IsBytes bs → length bs < bound
@@ -157,12 +146,10 @@ module _ (item : Parser Tree) (Whole : Tree → Type 0) (rejects : Rejection) (b
       then_meets (indefinite_pairs_meet n y val.more (omega (arith, less, less2))
       (omega (arith, less, less2))) (λ ps z all. ok_meets _ (record {
         whole = (key.whole, val.whole, all.whole);
-        is = key.is ∙ ap (λ r. bytes k ++ r) (val.is ∙ ap (λ r. bytes v ++ r) all.is)
-            ∙ regroup_pairs (bytes k) (bytes v) (bytes_pairs ps) z;
+        is = rw (key.is, val.is, all.is) (simp append_assoc);
         more = all.more;
       })) (λ e rest all. in_pairs (pair k v all.prefix) all.after (key.whole, val.whole, all.whole)
-      (key.is ∙ ap (λ r. bytes k ++ r) (val.is ∙ ap (λ r. bytes v ++ r) all.is)
-      ∙ regroup (bytes k) (bytes v) (bytes_pairs all.prefix) all.after) all.rejected))
+      (rw (key.is, val.is, all.is) (simp append_assoc)) all.rejected))
       (λ e rest f. in_pairs no_pairs (b ∷ bs) tt refl (inr (record
       { key = k; after = x; whole = key.whole; is = key.is; rejected = f }))))
       (λ e rest f. in_pairs no_pairs (b ∷ bs) tt refl (inl (eqb-false b break no, f))))
@@ -238,9 +225,7 @@ module _ (item : Parser Tree) (Whole : Tree → Type 0) (rejects : Rejection) (b
   pub trees_stop : (n : ℕ) (bs : List ℕ) (e : InputError)
       (rest : List ℕ) → length bs < bound → RejectsInCount Whole rejects n bs e rest
       → trees_at item n bs ≡ Err (e, rest)
-  trees_stop n bs e rest lt st =
-      ap (trees_at item n) st.is ∙ definite_trees st.prefix n st.after e
-      rest st.few st.whole (subst (λ y. length y < bound) st.is lt) st.rejected
+  trees_stop n bs e rest lt st = search (rules, definite_trees)
 
   definite_pairs : (prefix : Trees) (n : ℕ) (after : List ℕ) (e : InputError) (rest : List ℕ)
       → count prefix < 2 * n → Each Whole prefix → length (bytes_all prefix ++ after) < bound
@@ -268,9 +253,7 @@ module _ (item : Parser Tree) (Whole : Tree → Type 0) (rejects : Rejection) (b
   pub pairs_stop : (n : ℕ) (bs : List ℕ) (e : InputError)
       (rest : List ℕ) → length bs < bound → RejectsInCount Whole rejects (2 * n) bs e rest
       → pairs_at item n bs ≡ Err (e, rest)
-  pairs_stop n bs e rest lt st =
-      ap (pairs_at item n) st.is ∙ definite_pairs st.prefix n st.after e
-      rest st.few st.whole (subst (λ y. length y < bound) st.is lt) st.rejected
+  pairs_stop n bs e rest lt st = search (rules, definite_pairs)
 
   -- the end of an indefinite-length sequence that is rejected
   indefinite_end_rejects : (n : ℕ) (after : List ℕ) (e : InputError) (rest : List ℕ)
@@ -304,10 +287,7 @@ module _ (item : Parser Tree) (Whole : Tree → Type 0) (rejects : Rejection) (b
     pub indefinite_trees_stop : (n : ℕ) (bs : List ℕ) (e : InputError) (rest : List ℕ)
         → length bs < n → length bs < bound
         → IndefiniteItems Whole rejects bs e rest → indefinite_trees_at item n bs ≡ Err (e, rest)
-    indefinite_trees_stop n bs e rest more lt st =
-        ap (indefinite_trees_at item n) st.is
-        ∙ indefinite_items st.prefix n st.after e rest st.whole
-        (subst (λ y. length y < n) st.is more) (subst (λ y. length y < bound) st.is lt) st.rejected
+    indefinite_trees_stop n bs e rest more lt st = search (rules, indefinite_items)
 
     indefinite_pair_rejects : (n : ℕ) (after : List ℕ) (e : InputError) (rest : List ℕ)
         → length after < n → length after < bound

@@ -2,7 +2,7 @@
 -- under a larger budget, unless for want of a step.
 use Rattle.std.proofs.Common.{◌≡◌, ℕ, zero, suc, ◌<◌, ◌⊎◌, inl, inr, List, [], ◌∷◌, ◌++◌, length}
 use Rattle.std.proofs.Common.{Option, Some, None, refl, sym, ap, ◌∙◌, arith, subst, append_assoc}
-use Rattle.std.proofs.Common.{append-nil, length-append}
+use Rattle.std.proofs.Common.{append-nil, length-append, rules}
 use Rattle.std.specs.Int.{bytes_high_first}
 use Rattle.cbor4ii_items.specs.{Budget.CostFits, Head.{Width, byte_count, head}}
 use Rattle.cbor4ii_tree.specs.{Basis.Cost.{Budget, step_in}, Basis.InputError.{InputError, eof}}
@@ -74,9 +74,7 @@ each_pair_covers V W c (pair k v ps) h = (c k h.0, c v h.1, each_pair_covers V W
 -- at the end of the input nothing follows it
 pub at_end : (S : Rejection) (e : InputError) (more bs rest : List ℕ) → more ≡ [] → S bs e rest
     → S (bs ++ more) e (rest ++ more)
-at_end S e more bs rest is s =
-    let nothing : (xs : List ℕ) → xs ++ more ≡ xs = λ xs. ap (λ m. xs ++ m) is ∙ append-nil xs in
-    rw (nothing bs, nothing rest) s
+at_end S e more bs rest is s = search (rules, append-nil)
 
 eof_is : (f e : InputError) → IsEof f → e ≡ f → IsEof e
 eof_is f e h is = subst IsEof (sym is) h

@@ -1,7 +1,7 @@
 -- The program on lists answers with what begins the input and with what is rejected; what an error
 -- says of the bytes that may still come.
 use Rattle.std.proofs.Common.{◌≡◌, ℕ, suc, ◌⊎◌, inl, inr, List, [], ◌∷◌, ◌++◌, length, None, Ok}
-use Rattle.std.proofs.Common.{Err, sym, ap, ◌∙◌, subst, arith, append_assoc, append-nil}
+use Rattle.std.proofs.Common.{Err, sym, ap, ◌∙◌, subst, arith, append_assoc, append-nil, rules}
 use Rattle.cbor4ii_items.specs.Head.{IsBytes}
 use Rattle.cbor4ii_tree.specs.Basis.{Cost.Budget, Encodings.{SomeAnswer, AtMostOne, IsProperPrefix}}
 use Rattle.cbor4ii_tree.specs.Basis.InputError.{InputError, eof, Len, IsEof, IsFinal}
@@ -47,8 +47,7 @@ pub record Laws (p : Profile) : Type 0 where
   pub outlined : Outlined p
 
 pub skipping_laws : Laws skipping_profile
-skipping_laws =
-    record { lawful = skipping_lawful; widens = skipping_widens; outlined = λ b t w. w.0 }
+skipping_laws = search (rules, skipping_lawful, skipping_widens)
 
 pub reading_laws : Laws reading_profile
 reading_laws =
@@ -57,9 +56,7 @@ reading_laws =
 module _ {p : Profile} (l : Laws p) where
   pub at_from_takes : (input : List ℕ) (budget : Budget) (t : Tree) (rest : List ℕ)
       → Takes p input budget t rest → item_at p budget input ≡ Ok (t, rest)
-  at_from_takes input budget t rest s =
-      rw s.1
-      (item_again p l.lawful (suc (length (bytes t ++ rest))) budget t rest s.0 (omega arith))
+  at_from_takes input budget t rest s = search (rules, item_again)
 
   meets : (input : List ℕ) (budget : Budget) → IsBytes input
       → Meets (Took (p.Whole budget) input) (ItemRejects p input budget) (item_at p budget input)
@@ -114,10 +111,7 @@ module _ {p : Profile} (l : Laws p) where
   pub eof_alone : (prefix back : List ℕ) (budget : Budget) (t : Tree) (e : InputError)
       (rest : List ℕ) → ItemRejects p prefix budget e rest → Takes p (prefix ++ back) budget t []
       → IsEof e
-  eof_alone prefix back budget t e rest s u = elim (may_reject p prefix budget e rest s) [
-    | inl q ↦ q
-    | inr q ↦ absurd (stays prefix back budget t [] e rest (no_eof e q) s u)
-  ]
+  eof_alone prefix back budget t e rest s u = search (rules, may_reject, inl, inr, stays, no_eof)
 
   pub prefix_rejects : (t : Tree) (prefix : List ℕ) (budget : Budget) → p.Whole budget t
       → IsProperPrefix prefix (bytes t) → IsBytes prefix
@@ -143,10 +137,4 @@ module _ {p : Profile} (l : Laws p) where
   pub eof_on_prefix : (input : List ℕ) (budget : Budget) (e : InputError) (rest : List ℕ)
       → IsBytes input → IsEof e → ItemRejects p input budget e rest
       → (t : Tree) × Outline p.tests t × IsBytes (bytes t) × IsProperPrefix input (bytes t)
-  eof_on_prefix input budget e rest h eo s =
-      let f = rejected_prefix p l.outlined input budget e rest h eo s in (
-        f.whole,
-        f.good,
-        whole_bytes input f.more (bytes f.whole) h f.some f.is,
-        (f.more, f.some.0, f.is),
-      )
+  eof_on_prefix input budget e rest h eo s = search (rules, rejected_prefix, whole_bytes)

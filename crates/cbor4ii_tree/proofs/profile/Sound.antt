@@ -1,7 +1,7 @@
 -- What the program on lists takes is a tree that is whole; where it fails, it is rejected so.
 use Rattle.std.proofs.Common.{◌≡◌, ℕ, zero, suc, ◌<◌, ◌≤◌, inl, inr, List, [], ◌∷◌, ◌++◌, length}
 use Rattle.std.proofs.Common.{Some, Bool, true, false, refl, sym, ap, ap₂, ◌∙◌, subst, arith}
-use Rattle.std.proofs.Common.{append_assoc, length-append, Ok, ◌*◌, Err}
+use Rattle.std.proofs.Common.{append_assoc, length-append, Ok, ◌*◌, Err, rules}
 use Rattle.std.proofs.lemmas.Str.{IsUtf8-from_is_utf8, is_utf8-from_IsUtf8}
 use Rattle.std.specs.{Int.bytes_high_first, Str.is_utf8}
 use Rattle.cbor4ii_items.specs.{Budget.CostFits, Head.{Width, HeadFits, head, byte_count, break}}
@@ -12,44 +12,39 @@ use Rattle.cbor4ii_items.specs.Initial.{starts_indefinite_array, bad_array, star
 use Rattle.cbor4ii_items.specs.Initial.{starts_indefinite_map, bad_map, starts_tag, starts_simple}
 use Rattle.cbor4ii_items.specs.{Initial.{starts_bits, initial}, Laws.Answering.fits_zero}
 use Rattle.cbor4ii_items.specs.{Laws.Heads.if_cases, Reading.{Reading, go_on}}
-use Rattle.cbor4ii_tree.specs.{Basis.Cost.{Budget, step_in}, Basis.InputError.kind_name}
-use Rattle.cbor4ii_tree.specs.Basis.InputError.{require_utf8, tag_name, InputError}
-use Rattle.cbor4ii_tree.specs.Calls.ItemAt.{tested_string, string_tree_at, chunk_tree_by}
-use Rattle.cbor4ii_tree.specs.Calls.ItemAt.{chunk_tree_at, item_by, item_from, item_within}
-use Rattle.cbor4ii_tree.specs.Calls.ItemRejects.{Profile, ReadableChunk, IsNoUtf8, ChunkRejectsBy}
-use Rattle.cbor4ii_tree.specs.Calls.ItemRejects.{ChunkOf, RejectsChunkBy, RejectsBy, RejectsFrom}
-use Rattle.cbor4ii_tree.specs.{Calls.ItemRejects.{RejectsWithin, NoUtf8Joined}, Laws.Binds.step_up}
-use Rattle.cbor4ii_tree.specs.{Laws.Binds.{err, then_err, stepped_rejects}, Laws.Profiles.Tested}
-use Rattle.cbor4ii_tree.specs.{Laws.Profiles.{IsLawfulProfile, HasWholeParts}, Calls.Parse.Parser}
-use Rattle.cbor4ii_tree.specs.Calls.Parse.{argument_of_width, prefix_at, number_of_width}
-use Rattle.cbor4ii_tree.specs.Calls.Parse.{parse_argument, trees_at, pairs_at, indefinite_trees_at}
-use Rattle.cbor4ii_tree.specs.{Calls.Parse.indefinite_pairs_at, Calls.Rejections.Rejection}
-use Rattle.cbor4ii_tree.specs.{Calls.Rejections.{Missing, AtHead, RejectsInCount}, Basis.Tree.Tree}
-use Rattle.cbor4ii_tree.specs.Basis.Tree.{int, string, chunked, array, array_indefinite, map_of}
-use Rattle.cbor4ii_tree.specs.Basis.Tree.{map_indefinite, tagged, simple, bits, count, pair_count}
-use Rattle.cbor4ii_tree.specs.Basis.Tree.{bytes, bytes_all, bytes_pairs, joined_chunks}
-use Rattle.cbor4ii_tree.specs.Laws.HeadsAgain.{prefix_again, argument_of}
-use Rattle.cbor4ii_tree.specs.Laws.ItemAgain.{chunk_again, chunks_start, starts, item_again}
-use Rattle.cbor4ii_tree.specs.Laws.PartsAgain.{StartNoBreak, Again, indefinite_trees_again}
+use Rattle.cbor4ii_tree.specs.Basis.{Cost.{Budget, step_in}, InputError.{kind_name, require_utf8}}
+use Rattle.cbor4ii_tree.specs.Basis.{InputError.{tag_name, InputError}, Tree.{Tree, int, string}}
+use Rattle.cbor4ii_tree.specs.Basis.Tree.{chunked, array, array_indefinite, map_of, map_indefinite}
+use Rattle.cbor4ii_tree.specs.Basis.Tree.{tagged, simple, bits, count, pair_count, bytes, bytes_all}
+use Rattle.cbor4ii_tree.specs.{Basis.Tree.{bytes_pairs, joined_chunks}, Calls.ItemAt.tested_string}
+use Rattle.cbor4ii_tree.specs.Calls.ItemAt.{string_tree_at, chunk_tree_by, chunk_tree_at, item_by}
+use Rattle.cbor4ii_tree.specs.Calls.{ItemAt.{item_from, item_within}, ItemRejects.Profile}
+use Rattle.cbor4ii_tree.specs.Calls.ItemRejects.{ReadableChunk, IsNoUtf8, ChunkRejectsBy, ChunkOf}
+use Rattle.cbor4ii_tree.specs.Calls.ItemRejects.{RejectsChunkBy, RejectsBy, RejectsFrom}
+use Rattle.cbor4ii_tree.specs.Calls.{ItemRejects.{RejectsWithin, NoUtf8Joined}, Parse.Parser}
+use Rattle.cbor4ii_tree.specs.Calls.Parse.{argument_of_width, prefix_at, trees_at, pairs_at}
+use Rattle.cbor4ii_tree.specs.Calls.Rejections.{Rejection, Missing, AtHead, RejectsInCount}
+use Rattle.cbor4ii_tree.specs.Laws.Binds.{step_up, err, then_err, stepped_rejects}
+use Rattle.cbor4ii_tree.specs.Laws.{HeadsAgain.{prefix_again, argument_of}, ItemAgain.chunk_again}
+use Rattle.cbor4ii_tree.specs.Laws.{ItemAgain.{chunks_start, starts, item_again}, PartsAgain.Again}
+use Rattle.cbor4ii_tree.specs.Laws.{PartsAgain.indefinite_trees_again, Profiles.Tested}
+use Rattle.cbor4ii_tree.specs.Laws.Profiles.{IsLawfulProfile, HasWholeParts}
 use Rattle.cbor4ii_tree.proofs.heads.Means.{prefix_meets, number_meets, HeadByte, Means, means}
 use Rattle.cbor4ii_tree.proofs.{heads.Means.{Headed, argument_meets}, parts.Meets.and_meets}
 use Rattle.cbor4ii_tree.proofs.parts.Meets.{Failing, Meets, ok_meets, err_meets, then_meets}
-use Rattle.cbor4ii_tree.proofs.{parts.Meets.{map_meets, step_meets}, parts.Rejecting.headed_by}
-use Rattle.cbor4ii_tree.proofs.{parts.Rejecting.{cut_or, tested_or, either}, parts.Stop.Took}
-use Rattle.cbor4ii_tree.proofs.parts.Stop.{took, Decides, trees_meet, pairs_meet, counted}
-use Rattle.cbor4ii_tree.proofs.parts.Stop.{indefinite_trees_meet, indefinite_pairs_meet, Gives}
-use Rattle.cbor4ii_tree.proofs.parts.Stop.{missing_prefix, lacks_number, lacks_argument}
-use Rattle.cbor4ii_tree.proofs.parts.Stop.{head_rejects, trees_stop, pairs_stop}
-use Rattle.cbor4ii_tree.proofs.parts.Stop.{indefinite_trees_stop, indefinite_pairs_stop}
+use Rattle.cbor4ii_tree.proofs.parts.{Meets.{map_meets, step_meets}, Rejecting.{headed_by, cut_or}}
+use Rattle.cbor4ii_tree.proofs.parts.{Rejecting.{tested_or, either}, Stop.{Took, took, Decides}}
+use Rattle.cbor4ii_tree.proofs.parts.Stop.{trees_meet, pairs_meet, counted, indefinite_trees_meet}
+use Rattle.cbor4ii_tree.proofs.parts.Stop.{indefinite_pairs_meet, Gives, missing_prefix}
+use Rattle.cbor4ii_tree.proofs.parts.Stop.{lacks_number, lacks_argument, head_rejects, trees_stop}
+use Rattle.cbor4ii_tree.proofs.parts.Stop.{pairs_stop, indefinite_trees_stop, indefinite_pairs_stop}
 
 -- ---- where an item is rejected, the program on lists fails so
 
 string_rejects : (name : List ℕ) (k : Kind) (w : Width) (b : ℕ) (bs : List ℕ) (e : InputError)
     (rest : List ℕ) → AtHead name (kind_major k) w b (Missing name) bs e rest
     → string_tree_at name w b bs ≡ Err (e, rest)
-string_rejects name k w b bs e rest s =
-    head_rejects {A = List ℕ} name (kind_major k) w b bs _ _ e rest
-    (λ n after le. missing_prefix name n after e rest) s
+string_rejects name k w b bs e rest s = search (rules, head_rejects, missing_prefix)
 
 chunk_by_rejects : (k : Kind) (i : Initial) (b : ℕ) (bs : List ℕ) (e : InputError) (rest : List ℕ)
     → ChunkRejectsBy k i b bs e rest → chunk_tree_by k i b bs ≡ Err (e, rest)
@@ -65,9 +60,7 @@ chunk_rejects : (tests : Bool) (k : Kind) (budget : Budget) (item : Parser Tree)
 chunk_rejects false k budget item rejects bound g bs e rest lt s = g bs e rest lt s
 chunk_rejects true k budget item rejects bound g [] e rest lt s = err _ _ _ _ s
 chunk_rejects true k budget item rejects bound g (b ∷ bs) e rest lt s =
-    stepped_rejects (kind_name k) (step_in budget) (b ∷ bs)
-    (λ inner. chunk_tree_by k (initial b) b bs) (λ inner. ChunkRejectsBy k (initial b) b bs) e
-    rest (λ inner is y. chunk_by_rejects k (initial b) b bs e rest y) s
+    search (rules, stepped_rejects, chunk_by_rejects)
 
 -- a whole content that is no UTF-8
 tested_rejects : (tests : Bool) (k : Kind) (content : List ℕ) (t : Tree) (rest : List ℕ)
@@ -93,9 +86,7 @@ module _ (p : Profile) (l : IsLawfulProfile p) where
     by_rejects : (i : Initial) (b : ℕ) (bs : List ℕ) (e : InputError) (rest : List ℕ)
         → length bs < bound → RejectsBy p rejects budget i b bs e rest
         → item_by p item budget i b bs ≡ Err (e, rest)
-    by_rejects (starts_int sg w) b bs e rest lt s =
-        then_err (parse_argument p.asks (p.of_int sg) w b bs) _ (e, rest)
-        (lacks_argument p.asks (p.of_int sg) w b bs e rest s)
+    by_rejects (starts_int sg w) b bs e rest lt s = search (rules, then_err, lacks_argument)
     by_rejects (starts_string k w) b bs e rest lt s =
         either p.tests (λ x. then_err (string_tree_at (p.of_string k) w b bs) _ (e, rest)
         (string_rejects (p.of_string k) k w b bs e rest x)) (λ tests x.
@@ -107,24 +98,7 @@ module _ (p : Profile) (l : IsLawfulProfile p) where
         in rw (top, prefix) (tested_rejects p.tests k content (string k w content) rest tests
         x.rejected.invalid ∙ ap (λ f. Err (f, rest)) (sym x.rejected.err))) s
     by_rejects (starts_chunks k) b bs e rest lt s =
-        let item_at : Parser Tree = chunk_tree_at p.tests k budget (item budget) in
-        let W : Tree → Type 0 = ChunkOf p.tests k budget (p.Whole budget) in
-        let again : Again item_at W bound =
-        chunk_again p.tests k budget (item budget) (p.Whole budget) bound (a budget) in
-        let start : StartNoBreak W =
-        chunks_start p.tests k budget (p.Whole budget) (starts p l budget) in
-        either {B = NoUtf8Joined k W bs e rest} p.tests (λ x. then_err
-        (indefinite_trees_at item_at (suc (length bs)) bs) _ (e, rest)
-        (indefinite_trees_stop item_at W (RejectsChunkBy p.tests k budget (rejects budget)) bound
-        again (chunk_rejects p.tests k budget (item budget) (rejects budget) bound (g budget)) start
-        (suc (length bs)) bs e rest (omega arith) lt x)) (λ tests x.
-        let all : List ℕ = bytes_all x.chunks ++ break ∷ rest in
-        let read : indefinite_trees_at item_at (suc (length bs)) bs ≡ Ok (x.chunks, rest) =
-        ap (λ y. indefinite_trees_at item_at (suc (length y)) y) x.is
-        ∙ indefinite_trees_again item_at W bound again start x.chunks (suc (length all)) rest
-        x.whole (omega arith) (omega (arith, ap length x.is)) in
-        rw read (tested_rejects p.tests k (joined_chunks x.chunks) (chunked k x.chunks) rest tests
-        x.invalid ∙ ap (λ f. Err (f, rest)) (sym x.err))) s
+        search (rules, chunk_again, chunks_start, starts, either, NoUtf8Joined, then_err, indefinite_trees_stop, chunk_rejects, indefinite_trees_again, tested_rejects)
     by_rejects (starts_array w) b bs e rest lt s =
         stepped_rejects {A = Tree} p.of_array (p.inside budget) (b ∷ bs) _
         (λ c. AtHead p.of_array 4 w b (RejectsInCount (p.Whole c) (rejects c)) bs) e rest
@@ -132,13 +106,8 @@ module _ (p : Profile) (l : IsLawfulProfile p) where
         then_err {B = Tree} (trees_at (item c) n after) _ (e, rest)
         (trees_stop _ _ _ bound (a c) (g c) n after e rest (omega arith) st))) s
     by_rejects starts_indefinite_array b bs e rest lt s =
-        stepped_rejects {A = Tree} p.of_array (p.inside budget) (b ∷ bs) _ _ e rest (λ c is z.
-        then_err {B = Tree} (indefinite_trees_at (item c) (suc (length bs)) bs) _ (e, rest)
-        (indefinite_trees_stop _ _ _ bound (a c) (g c) (starts p l c) (suc (length bs)) bs e rest
-        (omega arith) lt z)) s
-    by_rejects bad_array b bs e rest lt s =
-        stepped_rejects {A = Tree} p.of_array (p.inside budget) (b ∷ bs) _ _ e rest
-        (λ c is z. err {A = Tree} _ _ _ _ z) s
+        search (rules, stepped_rejects, then_err, indefinite_trees_stop, starts)
+    by_rejects bad_array b bs e rest lt s = search (rules, stepped_rejects, err)
     by_rejects (starts_map w) b bs e rest lt s =
         stepped_rejects {A = Tree} p.of_map (p.inside budget) (b ∷ bs) _
         (λ c. AtHead p.of_map 5 w b (λ n. RejectsInCount (p.Whole c) (rejects c) (2 * n)) bs) e rest
@@ -146,20 +115,13 @@ module _ (p : Profile) (l : IsLawfulProfile p) where
         then_err {B = Tree} (pairs_at (item c) n after) _ (e, rest)
         (pairs_stop _ _ _ bound (a c) (g c) n after e rest (omega arith) st))) s
     by_rejects starts_indefinite_map b bs e rest lt s =
-        stepped_rejects {A = Tree} p.of_map (p.inside budget) (b ∷ bs) _ _ e rest (λ c is z.
-        then_err {B = Tree} (indefinite_pairs_at (item c) (suc (length bs)) bs) _ (e, rest)
-        (indefinite_pairs_stop _ _ _ bound (a c) (g c) (starts p l c) (suc (length bs)) bs e rest
-        (omega arith) lt z)) s
-    by_rejects bad_map b bs e rest lt s =
-        stepped_rejects {A = Tree} p.of_map (p.inside budget) (b ∷ bs) _ _ e rest
-        (λ c is z. err {A = Tree} _ _ _ _ z) s
+        search (rules, stepped_rejects, then_err, indefinite_pairs_stop, starts)
+    by_rejects bad_map b bs e rest lt s = search (rules, stepped_rejects, err)
     by_rejects (starts_tag w) b bs e rest lt s =
         head_rejects {A = Tree} tag_name 6 w b bs _ _ e rest (λ n after le st. then_err {B = Tree}
         (item budget after) _ (e, rest) (g budget after e rest (omega arith) st)) s
     by_rejects (starts_simple v) b bs e rest lt s = absurd s
-    by_rejects (starts_bits q) b bs e rest lt s =
-        then_err (number_of_width p.asks (p.of_float q) (precision_bytes q) bs) _ (e, rest)
-        (lacks_number p.asks (p.of_float q) (precision_bytes q) bs e rest s)
+    by_rejects (starts_bits q) b bs e rest lt s = search (rules, then_err, lacks_number)
     by_rejects _ b bs e rest lt s = err _ _ _ _ s
 
     from_rejects : (bs : List ℕ) (e : InputError) (rest : List ℕ) → length bs < suc bound
@@ -172,10 +134,7 @@ module _ (p : Profile) (l : IsLawfulProfile p) where
   unfolding item_within
   item_rejects zero budget bs e rest lt s = absurd s
   item_rejects (suc n) budget bs e rest lt s =
-      stepped_rejects p.of_item (step_in budget) bs (λ c. item_from p (item_within p n) c bs)
-      (λ c. RejectsFrom p (RejectsWithin p n) c bs) e rest (λ c is y. from_rejects
-      (item_within p n) c (RejectsWithin p n) n (item_again p l n) (item_rejects n) bs e rest lt y)
-      s
+      search (rules, stepped_rejects, from_rejects, item_again, (item_rejects n))
 
 -- ---- heads and strings
 
@@ -213,9 +172,7 @@ tested_meets : {Good : Tree × List ℕ → Type 0} {Bad : Failing} (tests : Boo
     → (tests ≡ true → IsNoUtf8 k content → Bad (require_utf8 (kind_name k)) x)
     → Meets Good Bad (tested_string tests k content t x)
 tested_meets {Good = Good} {Bad = Bad} true text_string content t x g f =
-    if_cases (Meets Good Bad) (is_utf8 content) _ _
-    (λ e. ok_meets _ (g (IsUtf8-from_is_utf8 content e)))
-    (λ e. err_meets _ (f refl (λ u. let yes = is_utf8-from_IsUtf8 content u in cc)))
+    search (rules, if_cases, ok_meets, IsUtf8-from_is_utf8, err_meets, is_utf8-from_IsUtf8)
 tested_meets true byte_string content t x g f = ok_meets _ (g tt)
 tested_meets false k content t x g f = ok_meets _ (g tt)
 

@@ -1,27 +1,27 @@
 -- Where an item is rejected, it stays rejected. How deep items nest bounds nothing, so that a
 -- rejection goes by those of the parts.
 use Rattle.std.proofs.Common.{◌≡◌, ℕ, zero, suc, ◌-◌, ◌*◌, ◌≤◌, ◌↔◌, List, [], ◌∷◌, ◌++◌, length}
-use Rattle.std.proofs.Common.{Option, Some, None, Bool, true, false, refl, ap, ◌∙◌, subst, arith}
-use Rattle.std.proofs.Common.{append-nil, length-append, sym, ap₂}
-use Rattle.cbor4ii_items.specs.Head.{Width, byte_count, break, in_first, HeadFits, IsBytes}
+use Rattle.std.proofs.Common.{Option, Some, None, Bool, true, false, refl, ap, ◌∙◌, arith}
+use Rattle.std.proofs.Common.{append-nil, length-append, sym, ap₂, rules}
+use Rattle.cbor4ii_items.specs.Head.{Width, byte_count, break, in_first, IsBytes}
 use Rattle.cbor4ii_items.specs.Initial.{Kind, byte_string, text_string, kind_major, precision_bytes}
 use Rattle.cbor4ii_items.specs.Initial.{Initial, starts_int, bad_int, starts_string, starts_chunks}
 use Rattle.cbor4ii_items.specs.Initial.{starts_array, starts_indefinite_array, bad_array}
 use Rattle.cbor4ii_items.specs.Initial.{starts_map, starts_indefinite_map, bad_map, starts_tag}
 use Rattle.cbor4ii_items.specs.Initial.{starts_simple, starts_bits, initial, bad_string, bad_tag}
 use Rattle.cbor4ii_items.specs.Initial.{other_simple}
-use Rattle.cbor4ii_tree.specs.Basis.{Cost.{Budget, step_in, cost, skip_cost}, InputError.InputError}
-use Rattle.cbor4ii_tree.specs.Basis.InputError.{IsEof, IsDepthOverflow, kind_name, tag_name}
+use Rattle.cbor4ii_tree.specs.Basis.{Cost.{Budget, step_in, cost}, InputError.InputError}
+use Rattle.cbor4ii_tree.specs.Basis.InputError.{IsEof, IsDepthOverflow, tag_name}
 use Rattle.cbor4ii_tree.specs.Basis.Tree.{Tree, bytes_all, string, chunked, array, array_indefinite}
 use Rattle.cbor4ii_tree.specs.Basis.Tree.{map_of, map_indefinite, tagged, Trees, no_trees, tree}
 use Rattle.cbor4ii_tree.specs.Basis.Tree.{Pairs, no_pairs, pair, bytes, Loose, LooseAll, LoosePairs}
-use Rattle.cbor4ii_tree.specs.Basis.Tree.{IsChunk, AreChunks, SoundStrings, SoundStringsAll}
+use Rattle.cbor4ii_tree.specs.Basis.Tree.{IsChunk, SoundStrings, SoundStringsAll}
 use Rattle.cbor4ii_tree.specs.Basis.Tree.{SoundStringsPairs, Joins, JoinsAll, JoinsPairs}
 use Rattle.cbor4ii_tree.specs.Calls.ItemRejects.{Profile, NoUtf8, NoUtf8Joined, ChunkRejectsBy}
 use Rattle.cbor4ii_tree.specs.Calls.ItemRejects.{ChunkOf, RejectsChunkBy, RejectsBy, RejectsFrom}
-use Rattle.cbor4ii_tree.specs.Calls.ItemRejects.{RejectsWithin, ItemRejects}
+use Rattle.cbor4ii_tree.specs.Calls.ItemRejects.{RejectsWithin, ItemRejects, same_kind, no_chunk}
 use Rattle.cbor4ii_tree.specs.Calls.ReadingRejects.{reading_profile, Readable}
-use Rattle.cbor4ii_tree.specs.Calls.Rejections.{Rejection, Is, Missing, AtHead, RejectsInCount}
+use Rattle.cbor4ii_tree.specs.Calls.Rejections.{Rejection, Missing, AtHead, RejectsInCount}
 use Rattle.cbor4ii_tree.specs.Calls.Rejections.{RejectsAtStep, IndefiniteItems, IndefinitePairs}
 use Rattle.cbor4ii_tree.specs.Calls.{Rejections.{Each, EachPair}, SkippingRejects.skipping_profile}
 use Rattle.cbor4ii_tree.proofs.parts.{Rejecting.{or_both, either}, Widen.{Goes, Calm, Widens}}
@@ -40,48 +40,22 @@ use Rattle.cbor4ii_tree.proofs.heads.Means.{Means, means}
 -- tree, which joins chunks where strings are tested
 
 abbrev pub Outline : Bool → Tree → Type 0
-Outline true t = Loose t × Joins t
-Outline false t = Loose t
+Outline tests t = Loose t × (tests ≡ true → Joins t)
 
-each_loose : (ts : Trees) → Each Loose ts → LooseAll ts
-each_loose no_trees h = tt
-each_loose (tree t ts) h = (h.0, each_loose ts h.1)
+each_outline : (tests : Bool) (ts : Trees) → Each (Outline tests) ts
+    → LooseAll ts × (tests ≡ true → JoinsAll ts)
+each_outline tests no_trees h = (tt, λ e. tt)
+each_outline tests (tree t ts) h =
+    let r = each_outline tests ts h.1 in ((h.0.0, r.0), λ e. (h.0.1 e, r.1 e))
 
-each_pair_loose : (ps : Pairs) → EachPair Loose ps → LoosePairs ps
-each_pair_loose no_pairs h = tt
-each_pair_loose (pair k v ps) h = (h.0, h.1, each_pair_loose ps h.2)
-
-each_outline : (ts : Trees) → Each (Outline true) ts → LooseAll ts × JoinsAll ts
-each_outline no_trees h = (tt, tt)
-each_outline (tree t ts) h = let r = each_outline ts h.1 in ((h.0.0, r.0), (h.0.1, r.1))
-
-each_pair_outline : (ps : Pairs) → EachPair (Outline true) ps → LoosePairs ps × JoinsPairs ps
-each_pair_outline no_pairs h = (tt, tt)
-each_pair_outline (pair k v ps) h =
-    let r = each_pair_outline ps h.2 in ((h.0.0, h.1.0, r.0), (h.0.1, h.1.1, r.1))
+each_pair_outline : (tests : Bool) (ps : Pairs) → EachPair (Outline tests) ps
+    → LoosePairs ps × (tests ≡ true → JoinsPairs ps)
+each_pair_outline tests no_pairs h = (tt, λ e. tt)
+each_pair_outline tests (pair k v ps) h = search (rules, (each_pair_outline tests ps h.2))
 
 outlines : (tests : Bool) → Shapes (Outline tests)
 unfolding nought
-outlines true = record {
-  nothing = (omega arith, tt);
-  number = λ s n w fits. (fits, tt);
-  items = λ w ts fits each. let r = each_outline ts each in ((fits, r.0), r.1);
-  open_items = each_outline;
-  pairs = λ w ps fits each. let r = each_pair_outline ps each in ((fits, r.0), r.1);
-  open_pairs = each_pair_outline;
-  under_tag = λ n w t fits good. ((fits, good.0), good.1);
-  float = λ p n fits. (fits, tt);
-}
-outlines false = record {
-  nothing = omega arith;
-  number = λ s n w fits. fits;
-  items = λ w ts fits each. (fits, each_loose ts each);
-  open_items = each_loose;
-  pairs = λ w ps fits each. (fits, each_pair_loose ps each);
-  open_pairs = each_pair_loose;
-  under_tag = λ n w t fits good. (fits, good);
-  float = λ p n fits. fits;
-}
+outlines tests = search (rules, each_outline, each_pair_outline)
 
 mutual
   joins_sound : (t : Tree) → SoundStrings t → Joins t
@@ -103,41 +77,26 @@ mutual
       (joins_sound k h.0, joins_sound v h.1, joins_sound_pairs ps h.2)
 
 pub readable_outline : (b : Budget) (t : Tree) → Readable b t → Outline true t
-readable_outline b t w = (w.0.0, joins_sound t w.0.1)
+readable_outline b t w = (w.0.0, λ e. joins_sound t w.0.1)
 
 -- ---- strings
 
-string_outline : (tests : Bool) (k : Kind) (w : Width) (content : List ℕ)
-    → HeadFits w (length content) → Outline tests (string k w content)
-string_outline true k w content h = (h, tt)
-string_outline false k w content h = h
+abbrev Chunk : Bool → Kind → Tree → Type 0
+Chunk tests k t = Loose t × (tests ≡ true → IsChunk k t)
 
-Chunk : Bool → Kind → Tree → Type 0
-Chunk true k t = Loose t × IsChunk k t
-Chunk false k t = Loose t
-
-chunk_string : (k : Kind) (w : Width) (content : List ℕ) → HeadFits w (length content)
-    → Chunk true k (string k w content)
-unfolding Chunk
-chunk_string k w content h = (h, refl)
+no_chunk_mends : (t : Bool) (k : Kind) (b : ℕ) → IsEof (no_chunk t k b) → ⊥
+no_chunk_mends true k b h = h
+no_chunk_mends false k b h = h
 
 chunk_by_prefix : (k : Kind) (i : Initial) (b : ℕ) (bs : List ℕ) (e : InputError) (rest : List ℕ)
     → Means b i → IsBytes (b ∷ bs) → IsEof e → ChunkRejectsBy k i b bs e rest
     → Prefix (Chunk true k) (b ∷ bs)
 chunk_by_prefix byte_string (starts_string byte_string w) b bs e rest m h eo st =
-    cut_string (Chunk true byte_string) _ byte_string w b bs e rest (chunk_string byte_string w) m h
-    st
+    search (rules, cut_string)
 chunk_by_prefix text_string (starts_string text_string w) b bs e rest m h eo st =
-    cut_string (Chunk true text_string) _ text_string w b bs e rest (chunk_string text_string w) m h
-    st
-chunk_by_prefix byte_string (starts_chunks byte_string) b bs e rest m h eo st =
-    absurd (eof_only e _ eo st.0)
-chunk_by_prefix text_string (starts_chunks text_string) b bs e rest m h eo st =
-    absurd (eof_only e _ eo st.0)
-chunk_by_prefix byte_string (starts_chunks text_string) b bs e rest m h eo st =
-    absurd (eof_only e _ eo st.0)
-chunk_by_prefix text_string (starts_chunks byte_string) b bs e rest m h eo st =
-    absurd (eof_only e _ eo st.0)
+    search (rules, cut_string)
+chunk_by_prefix k (starts_chunks j) b bs e rest m h eo st =
+    absurd (no_chunk_mends (same_kind j k) k b (eof_only e _ eo st.0))
 chunk_by_prefix k i b bs e rest m h eo st = absurd (eof_only e _ eo st.0)
 
 empty_some : (k : Kind) → IsMore (bytes (string k in_first []))
@@ -147,32 +106,23 @@ empty_some text_string = then_some (96 ∷ []) [] (cons_some _ [], (omega arith,
 chunk_prefix : (tests : Bool) (k : Kind) (budget : Budget) (rejects : Rejection)
     → Prefixes (Outline tests) rejects
     → Prefixes (Chunk tests k) (RejectsChunkBy tests k budget rejects)
-unfolding Chunk
-chunk_prefix false k budget rejects g bs e rest h eo st = g bs e rest h eo st
+chunk_prefix false k budget rejects g bs e rest h eo st = search (rules, prefix_of)
 chunk_prefix true k budget rejects g [] e rest h eo st =
     prefix_of (Chunk true k) [] (string k in_first []) (bytes (string k in_first []))
-    (chunk_string k in_first [] (omega arith)) (empty_some k) refl
+    (omega arith, λ e. refl) (empty_some k) refl
 chunk_prefix true k budget rejects g (b ∷ bs) e rest h eo st =
-    stepped_prefix (Chunk true k) _ (step_in budget) (b ∷ bs)
-    (λ inner. ChunkRejectsBy k (initial b) b bs) e rest eo
-    (λ inner x. chunk_by_prefix k (initial b) b bs e rest (means b h.0) h eo x) st
-
-each_chunks : (k : Kind) (ts : Trees) → Each (Chunk true k) ts → LooseAll ts × AreChunks k ts
-unfolding Chunk
-each_chunks k no_trees h = (tt, tt)
-each_chunks k (tree t ts) h = let r = each_chunks k ts h.1 in ((h.0.0, r.0), (h.0.1, r.1))
+    search (rules, stepped_prefix, chunk_by_prefix, means)
 
 chunks_outline : (tests : Bool) (k : Kind) (ts : Trees) → Each (Chunk tests k) ts
     → Outline tests (chunked k ts)
-unfolding Chunk
-chunks_outline true k ts each = each_chunks k ts each
-chunks_outline false k ts each = each_loose ts each
+chunks_outline tests k no_trees h = (tt, λ e. tt)
+chunks_outline tests k (tree t ts) h =
+    let r = chunks_outline tests k ts h.1 in ((h.0.0, r.0), λ e. (h.0.1 e, r.1 e))
 
 whole_chunk : (tests : Bool) (k : Kind) (b : Budget) (W : Tree → Type 0) (t : Tree)
     → (W t → Outline tests t) → ChunkOf tests k b W t → Chunk tests k t
-unfolding Chunk
-whole_chunk true k b W t f w = (w.0, w.1)
-whole_chunk false k b W t f w = f w
+whole_chunk true k b W t f w = (w.0, λ e. w.1)
+whole_chunk false k b W t f w = ((f w).0, λ e. cc)
 
 -- ---- items
 
@@ -192,8 +142,7 @@ module _ (p : Profile) (outlined : Outlined p) where
         cut_int Good (outlines p.tests) b bs e rest h s w m st.0
     by_prefix (bad_int s) b bs e rest m h eo st = absurd (eof_only e _ eo st.0)
     by_prefix (starts_string k w) b bs e rest m h eo st =
-        either p.tests (cut_string Good (p.of_string k) k w b bs e rest
-        (string_outline p.tests k w) m h) (λ y x. absurd (eof_only e _ eo x.rejected.err)) st
+        search (rules, either, cut_string, eof_only)
     by_prefix (starts_chunks k) b bs e rest m h eo st =
         let W : Tree → Type 0 = ChunkOf p.tests k budget (p.Whole budget) in
         either {B = NoUtf8Joined k W bs e rest} p.tests (λ x.
@@ -210,18 +159,14 @@ module _ (p : Profile) (outlined : Outlined p) where
     by_prefix starts_indefinite_array b bs e rest m h eo st =
         stepped_prefix Good _ (p.inside budget) (b ∷ bs) _ e rest eo (λ c x. cut_open_array Good
         (outlines p.tests) b bs e rest h _ (g c) eo _ (outlined c) m x) st
-    by_prefix bad_array b bs e rest m h eo st =
-        stepped_prefix Good _ (p.inside budget) (b ∷ bs) _ e rest eo
-        (λ c x. absurd (eof_only e _ eo x.0)) st
+    by_prefix bad_array b bs e rest m h eo st = search (rules, stepped_prefix, eof_only)
     by_prefix (starts_map w) b bs e rest m h eo st =
         stepped_prefix Good _ (p.inside budget) (b ∷ bs) _ e rest eo (λ c. cut_map Good
         (outlines p.tests) b bs e rest h _ (g c) eo _ (outlined c) p.of_map w m) st
     by_prefix starts_indefinite_map b bs e rest m h eo st =
         stepped_prefix Good _ (p.inside budget) (b ∷ bs) _ e rest eo (λ c x. cut_open_map Good
         (outlines p.tests) b bs e rest h _ (g c) eo _ (outlined c) m x) st
-    by_prefix bad_map b bs e rest m h eo st =
-        stepped_prefix Good _ (p.inside budget) (b ∷ bs) _ e rest eo
-        (λ c x. absurd (eof_only e _ eo x.0)) st
+    by_prefix bad_map b bs e rest m h eo st = search (rules, stepped_prefix, eof_only)
     by_prefix (starts_tag w) b bs e rest m h eo st =
         cut_tag Good (outlines p.tests) b bs e rest h (rejects budget) (g budget) eo w m st
     by_prefix bad_tag b bs e rest m h eo st = absurd (eof_only e _ eo st.0)
@@ -239,8 +184,7 @@ module _ (p : Profile) (outlined : Outlined p) where
   within_prefix : (n : ℕ) (budget : Budget) → Prefixes Good (RejectsWithin p n budget)
   within_prefix zero budget bs e rest h eo st = absurd st
   within_prefix (suc n) budget bs e rest h eo st =
-      stepped_prefix Good _ (step_in budget) bs _ e rest eo (λ c x. from_prefix c
-      (RejectsWithin p n) (within_prefix n) bs e rest h eo x) st
+      search (rules, stepped_prefix, from_prefix, (within_prefix n))
 
   pub rejected_prefix : (input : List ℕ) (budget : Budget) (e : InputError) (rest : List ℕ)
       → IsBytes input → IsEof e → ItemRejects p input budget e rest → Prefix Good input
@@ -255,18 +199,10 @@ pub record Widening (p : Profile) : Type 0 where
   pub stays : (b : ℕ) (bs more : List ℕ) → p.leaves b bs ++ more ≡ p.leaves b (bs ++ more)
 
 pub reading_widens : Widening reading_profile
-reading_widens = record {
-  covers = λ e b c w t h. (h.0, widens_fits e b c (cost t) w h.1);
-  inside = step_widens;
-  stays = λ b bs more. refl;
-}
+reading_widens = search (rules, widens_fits, step_widens)
 
 pub skipping_widens : Widening skipping_profile
-skipping_widens = record {
-  covers = λ e b c w t h. (h.0, widens_fits e b c (skip_cost t) w h.1);
-  inside = λ e b c w. (c, refl, w);
-  stays = λ b bs more. refl;
-}
+skipping_widens = search (rules, widens_fits)
 
 module _ (k : ℕ) (e : InputError) (more : List ℕ) (calm : Calm e more) where
   -- ---- strings
@@ -274,19 +210,10 @@ module _ (k : ℕ) (e : InputError) (more : List ℕ) (calm : Calm e more) where
   cut_goes : (name : List ℕ) (d : Kind) (v : Width) (a : ℕ)
       → Goes k e more (AtHead name (kind_major d) v a (Missing name))
       (AtHead name (kind_major d) v a (Missing name))
-  cut_goes name d v a =
-      at_head_goes k e more calm name (kind_major d) v a (Missing name) (Missing name)
-      (λ n. lacks_goes k e more calm ◌-◌ name n)
+  cut_goes name d v a = search (rules, at_head_goes, lacks_goes, ◌-◌)
 
   no_utf8_goes : (d : Kind) (n : ℕ) → Goes k e more (NoUtf8 d n) (NoUtf8 d n)
-  no_utf8_goes d n bs rest lt x =
-      record {
-        content = x.content;
-        long = x.long;
-        invalid = x.invalid;
-        is = onward bs x.content rest more x.is;
-        err = x.err;
-      }
+  no_utf8_goes d n bs rest lt x = search (rules, onward)
 
   chunk_by_goes : (d : Kind) (i : Initial) (a : ℕ)
       → Goes k e more (ChunkRejectsBy d i a) (ChunkRejectsBy d i a)
@@ -311,10 +238,7 @@ module _ (k : ℕ) (e : InputError) (more : List ℕ) (calm : Calm e more) where
     chunk_goes true d b c s t w g [] rest lt x =
         no_byte_goes k e more calm _ _ (RejectsChunkBy true d c t) rest x x
     chunk_goes true d b c s t w g (a ∷ bs) rest lt x =
-        stepped_goes (kind_name d) (step_in b) (step_in c) e (a ∷ bs) rest more
-        (λ inner. ChunkRejectsBy d (initial a) a bs)
-        (λ inner. ChunkRejectsBy d (initial a) a (bs ++ more)) (step_widens e b c w)
-        (λ inner outer v y. chunk_by_goes d (initial a) a bs rest (omega arith) y) x
+        search (rules, stepped_goes, step_widens, chunk_by_goes)
 
     module _ (b c : Budget) (w : Widens e b c) (s t : Budget → Rejection)
         (g : (x y : Budget) → Widens e x y → Goes k e more (s x) (t y)) where
@@ -324,8 +248,7 @@ module _ (k : ℕ) (e : InputError) (more : List ℕ) (calm : Calm e more) where
       by_goes (bad_int sg) a bs rest lt x =
           (x.0, ap (λ r. r ++ more) x.1 ∙ l.stays a bs more)
       by_goes (starts_string d v) a bs rest lt x =
-          or_both p.tests (cut_goes (p.of_string d) d v a bs rest lt) (after_head_goes k e more calm
-          (kind_major d) v a (NoUtf8 d) (NoUtf8 d) (no_utf8_goes d) bs rest lt) x
+          search (rules, or_both, cut_goes, after_head_goes, no_utf8_goes)
       by_goes (starts_chunks d) a bs rest lt x =
           let V : Tree → Type 0 = ChunkOf p.tests d b (p.Whole b) in
           let W : Tree → Type 0 = ChunkOf p.tests d c (p.Whole c) in
@@ -349,9 +272,7 @@ module _ (k : ℕ) (e : InputError) (more : List ℕ) (calm : Calm e more) where
           stepped_goes p.of_array (p.inside b) (p.inside c) e (a ∷ bs) rest more _
           (λ y. IndefiniteItems (p.Whole y) (t y) (bs ++ more)) (l.inside e b c w)
           (λ x y u. items_goes k e more calm _ _ _ _ (l.covers e x y u) (g x y u) bs rest lt) x
-      by_goes bad_array a bs rest lt x =
-          stepped_goes p.of_array (p.inside b) (p.inside c) e (a ∷ bs) rest more _
-          (λ y. Is _ (bs ++ more)) (l.inside e b c w) (λ x y u. is_goes _ e bs rest more) x
+      by_goes bad_array a bs rest lt x = search (rules, stepped_goes, is_goes)
       by_goes (starts_map v) a bs rest lt x =
           stepped_goes p.of_map (p.inside b) (p.inside c) e (a ∷ bs) rest more _ (λ y. AtHead
           p.of_map 5 v a (λ n. RejectsInCount (p.Whole y) (t y) (2 * n)) (bs ++ more))
@@ -361,9 +282,7 @@ module _ (k : ℕ) (e : InputError) (more : List ℕ) (calm : Calm e more) where
           stepped_goes p.of_map (p.inside b) (p.inside c) e (a ∷ bs) rest more _
           (λ y. IndefinitePairs (p.Whole y) (t y) (bs ++ more)) (l.inside e b c w)
           (λ x y u. pairs_goes k e more calm _ _ _ _ (l.covers e x y u) (g x y u) bs rest lt) x
-      by_goes bad_map a bs rest lt x =
-          stepped_goes p.of_map (p.inside b) (p.inside c) e (a ∷ bs) rest more _
-          (λ y. Is _ (bs ++ more)) (l.inside e b c w) (λ x y u. is_goes _ e bs rest more) x
+      by_goes bad_map a bs rest lt x = search (rules, stepped_goes, is_goes)
       by_goes (starts_tag v) a bs rest lt x =
           at_head_goes k e more calm tag_name 6 v a _ _ (λ n. g b c w) bs rest lt x
       by_goes (starts_simple v) a bs rest lt x = x
@@ -414,9 +333,7 @@ module _ (p : Profile) (l : Widening p) where
 
   as_is : (S : Rejection) (bs : List ℕ) (e : InputError) (rest : List ℕ)
       → S (bs ++ []) e (rest ++ []) → S bs e rest
-  as_is S bs e rest s =
-      subst (λ r. S bs e r) (append-nil rest)
-      (subst (λ b. S b e (rest ++ [])) (append-nil bs) s)
+  as_is S bs e rest s = search (rules, append-nil)
 
   free : Budget → Rejection
   free b part = ItemRejects p part b

@@ -3,7 +3,7 @@ use denote.Ref.{Bor}
 use Rattle.std.proofs.Common.{◌≡◌, ◌≢◌, ℕ, ◌+◌, ◌<◌, ◌^◌, ◌≤◌, inl, inr, List, [], ◌++◌, length}
 use Rattle.std.proofs.Common.{take, drop, Option, Some, None, Result, Ok, Err, Bool, true, false}
 use Rattle.std.proofs.Common.{IsTrue, refl, sym, ap, ◌∙◌, subst, arith, IfSome, IfOk, IfErr, OnOk}
-use Rattle.std.proofs.Common.{length-append, take-append-drop, append_assoc, ap₂}
+use Rattle.std.proofs.Common.{length-append, take-append-drop, append_assoc, rules}
 use Rattle.std.proofs.{Math.Seq.drop-append_seam, lemmas.List.{length-drop, take_all}}
 use Rattle.std.proofs.lemmas.List.{nil_from_length}
 use Rattle.std.specs.Prelude.{MatchBool, MatchOption, min}
@@ -25,7 +25,7 @@ use Rattle.cbor4ii_tree.specs.{Basis.Cost.{Budget, skip_cost}, Inner.Does.Does}
 use Rattle.cbor4ii_tree.specs.{Basis.Encodings.Skips, Basis.Headline.{Answered, Rejected}}
 use Rattle.cbor4ii_tree.specs.{Calls.Ignored.ReadsTree, Basis.InputError.InputError}
 use Rattle.cbor4ii_tree.specs.{Laws.Binds.same_err, Laws.Ignoring.{one_encoding, tree_prefix}}
-use Rattle.cbor4ii_tree.specs.{Calls.Skip.skip, Inner.Skipping.{SkipsOne, RejectsSkippingOne}}
+use Rattle.cbor4ii_tree.specs.{Inner.Skipping.{SkipsOne, RejectsSkippingOne}}
 use Rattle.cbor4ii_tree.specs.{Calls.SkippingRejects.SkippingRejects, Basis.Tree.{Tree, bytes}}
 use Rattle.cbor4ii_tree.specs.Calls.BoxedRaw.{RejectsRawUnlent}
 use Rattle.cbor4ii_tree.proofs.skipping.Answer.{not_both, skip_from_Rejects}
@@ -35,10 +35,7 @@ use Rattle.cbor4ii_tree.proofs.skip_calls.Doing.{says}
 
 never_failed : (t : Bool) (a b : View) → a.failures ≡ 0 → b.failures ≡ 0
     → MatchBool t (ReaderFailed a b) (Kept a b) → t ≡ false
-never_failed true a b e f h = elim h.failures [
-  | inl rose ↦ absurd (omega (arith, rose, e, f))
-  | inr greatest ↦ absurd (omega (arith, greatest, f))
-]
+never_failed true a b e f h = search (rules, inl, inr)
 never_failed false a b e f h = refl
 
 rejects_at : (o : Option InputError) (xs : List ℕ) (budget : Budget) (new : Option (List ℕ))
@@ -61,17 +58,7 @@ lent_rejects shown rest a b {e = e} d spares = record {
 
 shows_on : {shown : List ℕ} {a m k : View} → Shows shown a m → KeepsAllButBudget m k
     → k.budget ≡ m.budget → Shows shown a k
-shows_on s same budget = record {
-  known = λ xs known. same.known ∙ s.known xs known;
-  bound = omega (arith, s.bound, same.bound);
-  advanceable = omega (arith, s.advanceable, same.advanceable);
-  budget = budget ∙ s.budget;
-  failures = same.failures ∙ s.failures;
-  taken = same.taken ∙ s.taken;
-  zero_copy = λ h. subst IsTrue (sym same.zero_copy) (s.zero_copy h);
-  remembers = λ h. subst IsTrue (sym same.remembers) (s.remembers h);
-  ends_at = same.ends_at ∙ s.ends_at;
-}
+shows_on s same budget = search rules
 
 pub captured : {V : Type 0} (content : V → List ℕ) {w : V} {lent shown : List ℕ} {n : ℕ}
     {a m k b : View} → FillsLong most lent a m → shown ≡ lent → SkipsPrefix shown m.budget n
@@ -131,9 +118,7 @@ skips_read xs n c budget p fits =
 
 rejects_one : (xs : List ℕ) (budget : Budget) (e f : InputError) (x y : List ℕ)
     → SkippingRejects xs budget e x → SkippingRejects xs budget f y → e ≡ f
-rejects_one xs budget e f x y p q =
-    ap (λ (z : InputError × List ℕ). z.0) (same_err (skip budget xs) (e, x) (f, y)
-    (skip_from_Rejects xs budget e x p) (skip_from_Rejects xs budget f y q))
+rejects_one xs budget e f x y p q = search (rules, same_err, skip_from_Rejects)
 
 pub if_some : (o : Option InputError) (P Q : InputError → Type 0) → ((z : InputError) → P z → Q z)
     → IfSome o P → IfSome o Q
@@ -148,17 +133,7 @@ by_read P Q e p = subst (λ v. MatchBool v P Q) (sym e) p
 
 module _ (a b : View) where
   broken : ReaderFails a b → ReaderFailed a b
-  broken p = record {
-    rest = λ xs known ys left. (0, p.known xs known ys left);
-    left = λ is xs known.
-        (0, record { left = p.kept is xs known; within = omega arith; bytes = tt });
-    bound = p.bound;
-    budget = p.budget;
-    failures = p.failures;
-    zero_copy = p.zero_copy;
-    remembers = p.remembers;
-    ends_at = p.ends_at;
-  }
+  broken p = search rules
 
   all_lent : (shown xs : List ℕ) → FillsLong most shown a b → IsExact false a → a.known ≡ Some xs
       → shown ≡ xs
@@ -202,15 +177,7 @@ module _ {V E : Type 0} (content : V → List ℕ) (a b : View) where
 
   pub raw_progress : (r : Result V (DecodeError E)) → Captures content a b r
       → OnOk r (b.bound + 1 ≤ a.bound)
-  raw_progress (Ok v) c =
-      let i = c.item in
-      omega (
-        arith,
-        ap length i.skips.begins,
-        length-append {A = ℕ},
-        length-drop {A = ℕ},
-        length-bytes-pos,
-      )
+  raw_progress (Ok v) c = search (rules, length-append, length-drop, length-bytes-pos)
   raw_progress (Err e) c = tt
 
   pub raw_memory : (r : Result V (DecodeError E)) → Captures content a b r
@@ -308,15 +275,7 @@ module _ {V E : Type 0} (content : V → List ℕ) (a b : View) where
 
   pub raw_decodes : (r : Result V (DecodeError E)) → Captures content a b r
       → Decodes (raw_format content) a b r
-  raw_decodes r c = record {
-    moves = raw_moves r c;
-    progress = λ some. raw_progress r c;
-    memory = raw_memory r c;
-    sound = raw_sound r c;
-    complete = λ exact. raw_complete r c exact;
-    rejects = λ exact. raw_rejects r c exact;
-    begins = raw_begins r c;
-  }
+  raw_decodes r c = search (rules, raw_moves, raw_progress, raw_memory, raw_sound, raw_complete, raw_rejects, raw_begins)
 
   pub raw_whole : (r : Result V (DecodeError E)) → Captures content a b r → IsExact false a
       → IfKnown a.known (λ xs. (t : Tree) (rest : List ℕ) → Skips xs a.budget t rest
@@ -345,55 +304,52 @@ module _ {V E : Type 0} (content : V → List ℕ) (a b : View) where
 
 -- ---- an empty prefix
 
--- an empty short prefix is as an empty long one
-pub lends_nothing : (a b : View) (answer : Option Reference) (lent : Reference) (shown : Bor
-    (List ℕ)) → answer ≡ Some lent → lent ≡ Short shown → MatchOption answer (ReaderFails a b)
-    (λ s. Shows (bytes_of s) a b) → IfKnown a.known (IsPrefix most (bytes_of lent))
-    → (IsTrue a.zero_copy → IsLong lent) → length shown.now ≡ 0 → FillsLong most [] a b
-lends_nothing a b answer lent shown e f shows prefix long none =
-    let empty : bytes_of lent ≡ [] = ap bytes_of f ∙ nil_from_length shown.now none in
-    record {
-      shows =
-          subst (λ z. Shows z a b) empty
-          (subst (λ o. MatchOption o (ReaderFails a b) (λ s. Shows (bytes_of s) a b)) e shows);
-      prefix = subst (λ z. IfKnown a.known (IsPrefix most z)) empty prefix;
-      enough = λ whole. absurd (subst IsLong f (long whole));
-    }
+module _ (a b : View) (answer : Option Reference) (lent : Reference) (shown : Bor (List ℕ))
+    (e : answer ≡ Some lent) (f : lent ≡ Short shown)
+    (shows : MatchOption answer (ReaderFails a b) (λ s. Shows (bytes_of s) a b))
+    (prefix : IfKnown a.known (IsPrefix most (bytes_of lent)))
+    (long : IsTrue a.zero_copy → IsLong lent) where
+  lent_shows : Shows (bytes_of lent) a b
+  lent_shows = subst (λ o. MatchOption o (ReaderFails a b) (λ s. Shows (bytes_of s) a b)) e shows
 
--- a short prefix of some bytes
-pub lends_short : (a b : View) (answer : Option Reference) (lent : Reference) (shown : Bor (List ℕ))
-    → answer ≡ Some lent → lent ≡ Short shown → MatchOption answer (ReaderFails a b) (λ s. Shows
-    (bytes_of s) a b) → IfKnown a.known (IsPrefix most (bytes_of lent))
-    → (IsTrue a.zero_copy → IsLong lent) → length shown.now ≢ 0 → BorrowsNone a b
-lends_short a b answer lent shown e f shows prefix long some =
-    let same : bytes_of lent ≡ shown.now = ap bytes_of f in
-    let s : Shows (bytes_of lent) a b =
-    subst (λ o. MatchOption o (ReaderFails a b) (λ s. Shows (bytes_of s) a b)) e shows in
-    record {
-      some = λ xs known none.
-          some (omega (arith, (prefix xs known).within, ap length none, ap length same));
-      stays = record {
-        known = s.known;
-        bound = s.bound;
-        advanceable = omega arith;
-        budget = s.budget;
-        failures = s.failures;
-        taken = s.taken;
-        zero_copy = s.zero_copy;
-        remembers = s.remembers;
-        ends_at = s.ends_at;
-      };
-      short = λ whole. absurd (subst IsLong f (long whole));
-    }
+  -- an empty short prefix is as an empty long one
+  pub lends_nothing : length shown.now ≡ 0 → FillsLong most [] a b
+  lends_nothing none =
+      let empty : bytes_of lent ≡ [] = ap bytes_of f ∙ nil_from_length shown.now none in
+      record {
+        shows = subst (λ z. Shows z a b) empty lent_shows;
+        prefix = subst (λ z. IfKnown a.known (IsPrefix most z)) empty prefix;
+        enough = λ whole. absurd (subst IsLong f (long whole));
+      }
+
+  -- a short prefix of some bytes
+  pub lends_short : length shown.now ≢ 0 → BorrowsNone a b
+  lends_short some =
+      let same : bytes_of lent ≡ shown.now = ap bytes_of f in
+      let s = lent_shows in
+      record {
+        some = λ xs known none.
+            some (omega (arith, (prefix xs known).within, ap length none, ap length same));
+        stays = record {
+          known = s.known;
+          bound = s.bound;
+          advanceable = omega arith;
+          budget = s.budget;
+          failures = s.failures;
+          taken = s.taken;
+          zero_copy = s.zero_copy;
+          remembers = s.remembers;
+          ends_at = s.ends_at;
+        };
+        short = λ whole. absurd (subst IsLong f (long whole));
+      }
 
 -- ---- what is said of an item that is to be kept, where the reader lends nothing
 
 -- no item stands in no bytes
 pub no_item : {budget : Budget} {shown lent : List ℕ} {n : ℕ} → lent ≡ [] → shown ≡ lent
     → SkipsPrefix shown budget n → ⊥
-no_item {budget = budget} {n = n} none is item =
-    let i = subst (λ z. SkipsPrefix z budget n) (is ∙ none) item in
-    absurd (omega (arith, ap length i.skips.begins, length-append {A = ℕ}, length-bytes-pos))
+no_item {budget = budget} {n = n} none is item = search (rules, length-append, length-bytes-pos)
 
 -- no byte is left
 pub none_rejects : {E : Type 0} {shown lent : List ℕ} {a m k : View} {e : DecodeError E} → lent ≡ []
@@ -432,8 +388,4 @@ cut_begins a same is item begins =
 -- the slice begins where its bytes, as bytes to come, begin
 pub begins_slice : (bytes : Bor (List ℕ)) (p : ℕ × ℕ) (a : View) → a.known ≡ Some bytes.now
     → a.ends_at ≡ Some (place_after bytes) → BeginsAt p a → p ≡ place_of bytes
-begins_slice bytes p a known ends begins =
-    let same : place_after bytes ≡ (p.0, p.1 + length bytes.now) =
-    begins (place_after bytes) ends bytes.now known in
-    ap₂ (λ i j. (i, j)) (sym (ap (λ (z : ℕ × ℕ). z.0) same))
-    (omega (arith, ap (λ (z : ℕ × ℕ). z.1) same))
+begins_slice bytes p a known ends begins = search rules

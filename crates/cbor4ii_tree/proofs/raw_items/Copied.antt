@@ -1,6 +1,6 @@
 -- What a copied item says of the bytes.
 use Rattle.std.proofs.Common.{◌≡◌, ℕ, inl, inr, List, [], drop, Some, Result, Ok, Err, true, false}
-use Rattle.std.proofs.Common.{refl, sym, subst, IfErr, IsTrue}
+use Rattle.std.proofs.Common.{refl, sym, subst, IfErr, IsTrue, rules}
 use Rattle.cbor4ii_rw.specs.{View.{View, IfKnown}, declared.error.DecodeError.DecodeError}
 use Rattle.cbor4ii_items.specs.{Decoding.{IsExact, Decodes}, InputError.is_out_of_memory}
 use Rattle.cbor4ii_items.specs.Laws.Calls.{in_memory, out_of_memory}
@@ -31,27 +31,21 @@ module _ {E : Type 0} (a b : View) where
       in_memory (raw_format boxed_content) (Ok v) (raw_decodes boxed_content a b (Ok v) c)
   copy_decodes (Err e) (inl n) =
       in_memory (raw_format boxed_content) (Err e) (raw_decodes boxed_content a b (Err e) n)
-  copy_decodes (Err e) (inr l) =
-      subst (λ (z : DecodeError E). Decodes boxed_raw_format a b (Err z)) (sym l.lacks)
-      (out_of_memory boxed_raw_format refl l.captured.lends.kept)
+  copy_decodes (Err e) (inr l) = search (rules, out_of_memory)
 
   copy_whole : (r : Result BoxedRawValue (DecodeError E)) → CapturesCopy a b r → IsExact false a
       → IfKnown a.known (λ xs. (t : Tree) (rest : List ℕ) → Skips xs a.budget t rest
       → Answered (λ v. (boxed_content v ≡ bytes t) × (b.known ≡ Some rest)) (λ _. ⊥) r)
   copy_whole (Ok v) c exact = raw_whole {E = E} boxed_content a b (Ok v) c exact
   copy_whole (Err e) (inl n) exact = raw_whole boxed_content a b (Err e) n exact
-  copy_whole (Err e) (inr l) exact =
-      λ xs known t rest s. subst (λ (z : DecodeError E). Answered {V = BoxedRawValue}
-      (λ v. (boxed_content v ≡ bytes t) × (b.known ≡ Some rest)) (λ _. ⊥) (Err z)) (sym l.lacks) tt
+  copy_whole (Err e) (inr l) exact = search rules
 
   copy_exact : (r : Result BoxedRawValue (DecodeError E)) → CapturesCopy a b r → IsExact false a
       → IfKnown a.known (λ xs. (e : InputError) (left : List ℕ) → SkippingRejects xs a.budget e left
       → Answered (λ _. ⊥) (λ f. (f ≡ e) × (b.known ≡ Some xs)) r)
   copy_exact (Ok v) c exact = raw_exact {E = E} boxed_content a b (Ok v) c exact
   copy_exact (Err e) (inl n) exact = raw_exact boxed_content a b (Err e) n exact
-  copy_exact (Err e) (inr l) exact =
-      λ xs known z left s. subst (λ (y : DecodeError E). Answered {V = BoxedRawValue} (λ _. ⊥)
-      (λ f. (f ≡ z) × (b.known ≡ Some xs)) (Err y)) (sym l.lacks) tt
+  copy_exact (Err e) (inr l) exact = search rules
 
   copy_unmoved : (r : Result BoxedRawValue (DecodeError E)) → CapturesCopy a b r
       → IfErr r (UnmovedOrLacks a b)
@@ -83,11 +77,4 @@ module _ {E : Type 0} (a b : View) where
 
   pub copies_item : (r : Result BoxedRawValue (DecodeError E)) → CapturesCopy a b r
       → CopiesItem a b r
-  copies_item r c = record {
-    decodes = copy_decodes r c;
-    unmoved = copy_unmoved r c;
-    errs = copy_rejected r c;
-    after_item = copy_after r c;
-    whole = copy_whole r c;
-    exact = copy_exact r c;
-  }
+  copies_item r c = search (rules, copy_decodes, copy_unmoved, copy_rejected, copy_after, copy_whole, copy_exact)

@@ -1,31 +1,47 @@
--- Keys of kept items, compared by their heads.
+-- Keys of kept items, walks over their parts, and what is found there.
+use Rattle.std.proofs.Common.{rules}
 use Rattle.std.proofs.Common.{◌≡◌, ◌≢◌, ℕ, suc, ◌<◌, ℤ, pos, negsuc, List, [], ◌∷◌, ◌++◌, length}
 use Rattle.std.proofs.Common.{Option, Some, None, Bool, true, false, refl, sym, ap, ◌∙◌, subst}
 use Rattle.std.proofs.Common.{arith, append_assoc, length-append, take, drop, take_at, drop_at, ap₂}
-use Rattle.std.proofs.Common.{eqb, get_or, ◌≤◌, ◌-ℤ◌, ◌^◌, nat_eq, ◌+◌, ◌*◌, ◌/◌, ◌%◌}
-use Rattle.std.proofs.{lemmas.Int.{ints, to_z-of_z, to_z_pos}, lemmas.List.append-nil}
+use Rattle.std.proofs.Common.{eqb, get_or, ◌≤◌, ◌-ℤ◌, ◌^◌, nat_eq, ◌+◌, ◌*◌, ◌/◌, ◌%◌, zero, ◌-◌}
+use Rattle.std.proofs.lemmas.{Int.{ints, to_z-of_z, to_z_pos}, List.append-nil}
 use denote.Ref.{Bor}
-use Rattle.std.specs.{Prelude.{◌==◌, ◌&&◌, IsSomeAnd}, Bool.Decides, Cmp.unsigned_Decides}
-use Rattle.std.specs.{Cmp.signed_Decides, Ordering.int_eq, Int.bytes_high_first}
+use Rattle.std.specs.{Bool.Decides, Cmp.{unsigned_Decides, signed_Decides}, Int.bytes_high_first}
+use Rattle.std.specs.{Ordering.int_eq, Prelude.{◌==◌, ◌&&◌, IsSomeAnd, if◌then◌else◌}}
+use Rattle.std.specs.Prelude.{option_and_then}
 use lib.Pointwise.{pointwise}
 use mir.Syntax.{w128}
 use mir.Val.{SFits, of_z, to_z}
 use Rattle.cbor4ii_items.specs.Head.{Width, in_first, two, four, eight, head, break, additional}
-use Rattle.cbor4ii_items.specs.{Head.{byte_count, LacksArgument}, Laws.Heads.argument_below}
-use Rattle.cbor4ii_items.specs.{Laws.Heads.length-bytes_high_first, Initial.{unsigned, negative}}
+use Rattle.cbor4ii_items.specs.{Head.{byte_count, LacksArgument}, Initial.{unsigned, negative}}
 use Rattle.cbor4ii_items.specs.Initial.{sign_major, byte_string, text_string, kind_major, Simple}
 use Rattle.cbor4ii_items.specs.Initial.{simple_false, simple_true, simple_null, simple_undefined}
 use Rattle.cbor4ii_items.specs.Initial.{Precision, half, single, double}
+use Rattle.cbor4ii_items.specs.Laws.Heads.{argument_below, length-bytes_high_first}
+use Rattle.cbor4ii_tree.specs.Basis.Cost.{cost, greatest_cost, greatest_pair_cost}
+use Rattle.cbor4ii_tree.specs.Basis.{Encodings.Encodes, Item.{text, Item, ItemPairs, no_item_pairs}}
+use Rattle.cbor4ii_tree.specs.Basis.{Item.{item_pair, integer}, Meaning.{value, values}}
+use Rattle.cbor4ii_tree.specs.Basis.{Meaning.pair_values_of, Tree.{no_trees, tree, joined_chunks}}
+use Rattle.cbor4ii_tree.specs.Basis.Tree.{Tree, int, string, chunked, array, array_indefinite}
+use Rattle.cbor4ii_tree.specs.Basis.Tree.{map_of, map_indefinite, tagged, simple, bits, bytes}
+use Rattle.cbor4ii_tree.specs.Basis.Tree.{bytes_all, bytes_pairs, count, pair_count, Loose}
+use Rattle.cbor4ii_tree.specs.Basis.Tree.{LooseAll, Trees, Pairs, no_pairs, pair, LoosePairs, Plain}
+use Rattle.cbor4ii_tree.specs.Basis.Tree.{SoundStrings, SoundStringsAll, SoundStringsPairs}
+use Rattle.cbor4ii_tree.specs.{Basis.Tree.AreChunks, Calls.Access.{as_array, as_map, find_text}}
+use Rattle.cbor4ii_tree.specs.Calls.{Access.find_value, ItemEquality.{item_eq-Decides, text_eq}}
+use Rattle.cbor4ii_tree.specs.Calls.{ItemEquality.item_eq, Raw.raw_content}
 use Rattle.cbor4ii_tree.specs.Calls.RawParts.{BeginsWithBreak, IsChunkSplit, are_whole_texts}
 use Rattle.cbor4ii_tree.specs.Calls.RawParts.{IsHead, SplitsHeads, chunks_mean, means_integer}
-use Rattle.cbor4ii_tree.specs.{Calls.RawParts.means_text, Basis.Item.text}
-use Rattle.cbor4ii_tree.specs.{Calls.ItemEquality.{item_eq-Decides, text_eq}, Laws.Initials.begins}
-use Rattle.cbor4ii_tree.specs.{Laws.Initials.{kind_below, sign_below}, Basis.Tree.{no_trees, tree}}
-use Rattle.cbor4ii_tree.specs.Basis.Tree.{joined_chunks, Tree, int, string, chunked, array}
-use Rattle.cbor4ii_tree.specs.Basis.Tree.{array_indefinite, map_of, map_indefinite, tagged, simple}
-use Rattle.cbor4ii_tree.specs.Basis.Tree.{bits, bytes, bytes_all, bytes_pairs, count, pair_count}
-use Rattle.cbor4ii_tree.specs.{Basis.Tree.{Loose, LooseAll, Trees}, declared.raw_head.Head.Head}
-use Rattle.cbor4ii_tree.specs.Laws.Numbers.{additional-lt}
+use Rattle.cbor4ii_tree.specs.Calls.RawParts.{means_text, Agrees, AreToCome, GivesItem, GivesPair}
+use Rattle.cbor4ii_tree.specs.Calls.RawParts.{IsLeftAfter, IsNextLength, IsRest, ItemsToCome}
+use Rattle.cbor4ii_tree.specs.Calls.RawParts.{PairsToCome, array_trees, map_pairs, KeepsEncoding}
+use Rattle.cbor4ii_tree.specs.Calls.RawParts.{KeepsItem, first_value, indexed_tree, indexed_value}
+use Rattle.cbor4ii_tree.specs.Laws.Initials.{begins, kind_below, sign_below, BeginsNoBreak}
+use Rattle.cbor4ii_tree.specs.{Laws.Numbers.additional-lt, declared.raw.RawValue.RawValue}
+use Rattle.cbor4ii_tree.specs.declared.{raw_head.Head.Head, raw_parts.RawItems.RawItems}
+use Rattle.cbor4ii_tree.specs.declared.raw_parts.RawPairs.{RawPairs}
+
+-- Keys of kept items, compared by their heads.
 
 -- ---- the head that begins some bytes, split off
 
@@ -121,21 +137,14 @@ module _ (answer : Option Head) (rest : List ℕ) where
 
   tree_begins : (t : Tree) → Loose t → Begins t
   tree_begins (int s n w) l h = h.sized (sign_major s) n w rest (omega (arith, sign_below s)) l refl
-  tree_begins (string k w content) l h =
-      h.sized (kind_major k) (length content) w (content ++ rest)
-      (omega (arith, kind_below k)) l
-      (append_assoc (head (kind_major k) (length content) w) content rest)
-  tree_begins (chunked k ts) l h =
-      h.indefinite (kind_major k) ((bytes_all ts ++ break ∷ []) ++ rest)
-      (omega (arith, kind_below k)) refl
+  tree_begins (string k w content) l h = search (rules, kind_below, append_assoc)
+  tree_begins (chunked k ts) l h = search (rules, kind_below)
   tree_begins (array w ts) l h =
-      h.sized 4 (count ts) w (bytes_all ts ++ rest) (omega arith) l.0
-      (append_assoc (head 4 (count ts) w) (bytes_all ts) rest)
+      h.sized 4 (count ts) w (bytes_all ts ++ rest) (omega arith) l.0 (simp append_assoc)
   tree_begins (array_indefinite ts) l h =
       h.indefinite 4 ((bytes_all ts ++ break ∷ []) ++ rest) (omega arith) refl
   tree_begins (map_of w ps) l h =
-      h.sized 5 (pair_count ps) w (bytes_pairs ps ++ rest) (omega arith) l.0
-      (append_assoc (head 5 (pair_count ps) w) (bytes_pairs ps) rest)
+      h.sized 5 (pair_count ps) w (bytes_pairs ps ++ rest) (omega arith) l.0 (simp append_assoc)
   tree_begins (map_indefinite ps) l h =
       h.indefinite 5 ((bytes_pairs ps ++ break ∷ []) ++ rest) (omega arith) refl
   tree_begins (tagged n w t) l h =
@@ -191,9 +200,7 @@ pub record IsSized (t : Tree) (n : ℕ) : Type 0 where
 
 pub sized : (t : Tree) (n : ℕ) → tree_major t ≡ 3 → tree_argument t ≡ Some n → IsSized t n
 sized (int unsigned n w) m e a = absurd (omega arith)
-sized (string text_string w content) m e a =
-    let same : length content ≡ m = cc in
-    record { width = w; content = content; is = refl; size = sym same }
+sized (string text_string w content) m e a = search rules
 sized (chunked k ts) m e a = cc
 sized (array_indefinite ts) m e a = cc
 sized (map_indefinite ps) m e a = cc
@@ -238,9 +245,7 @@ text_decides a b = let d = item_eq-Decides (text a) (text b) in (
 )
 
 pub differ : (a b : List ℕ) → pointwise eqb a b ≡ false → a ≢ b
-differ a b none e =
-    let same : text_eq a b ≡ true = (text_decides a b).1 e in
-    let other : text_eq a b ≡ false = sym (pointwise_is a b) ∙ none in cc
+differ a b none e = search (rules, text_decides, pointwise_is)
 
 not_true : (r : Bool) → (r ≡ true → ⊥) → r ≡ false
 not_true true f = absurd (f refl)
@@ -267,19 +272,12 @@ open_chunk _ rest answer e n = e
 
 pub content_fits : (t : Tree) (n : ℕ) (xs rest : List ℕ) → IsSized t n
     → xs ≡ tree_content t ++ rest → n ≤ length xs
-content_fits t n xs rest s e =
-    let is : xs ≡ s.content ++ rest = e ∙ ap (λ u. tree_content u ++ rest) s.is in
-    omega (arith, ap length is, length-append s.content rest, s.size)
+content_fits t n xs rest s e = search (rules, length-append)
 
 pub whole_chunk : (t : Tree) (n : ℕ) (xs rest : List ℕ) (split : Bor (List ℕ) × Bor (List ℕ))
     → IsSized t n → xs ≡ tree_content t ++ rest → split.0.now ≡ take n xs
     → split.1.now ≡ drop n xs → IsChunkSplit t rest (Some split)
-whole_chunk t n xs rest split s e front back =
-    let is : xs ≡ s.content ++ rest = e ∙ ap (λ u. tree_content u ++ rest) s.is in
-    subst (λ u. IsChunkSplit u rest (Some split)) (sym s.is) (
-      front ∙ (ap (take n) is ∙ take_at s.content rest n (sym s.size)),
-      back ∙ (ap (drop n) is ∙ drop_at s.content rest n (sym s.size)),
-    )
+whole_chunk t n xs rest split s e front back = search (rules, take_at, drop_at)
 
 -- what is left of chunks, and of the text that they are to be
 pub record ChunksLeftOf (ts : Trees) (key rest left : List ℕ) : Type 0 where
@@ -353,9 +351,7 @@ module _ (ts : Trees) (key rest left : List ℕ) (i : ChunksLeftOf ts key rest l
   -- no chunk was split off
   empty_is : (xs : List ℕ) → text_eq [] xs ≡ (length xs == 0)
   empty_is [] = refl
-  empty_is (x ∷ xs) = sym (not_true (suc (length xs) == 0) (λ e.
-      let none : suc (length xs) ≡ 0 = (unsigned_Decides (suc (length xs)) 0).0 e in
-      absurd (omega arith)))
+  empty_is (x ∷ xs) = search (rules, not_true, unsigned_Decides)
 
   pub chunks_end : BeginsWithBreak rest → (length left == 0) ≡ chunks_mean key ts
   chunks_end b = sym (i.same ∙ at_end i.more i.loose i.is)
@@ -382,10 +378,7 @@ module _ (ts : Trees) (key rest left : List ℕ) (i : ChunksLeftOf ts key rest l
           → chunks_mean left more ≡ false
       at_stop no_trees l is =
           absurd (b (record { some = omega (arith, ap length is); is = ap (λ z. get_or z 0 0) is }))
-      at_stop (tree t us) l is =
-          by_tree t us (subst (IsChunkSplit t (bytes_all us ++ break ∷ [])) none
-          (item t (bytes_all us ++ break ∷ []) l.0
-          (is ∙ append_assoc (bytes t) (bytes_all us) (break ∷ []))))
+      at_stop (tree t us) l is = search (rules, append_assoc)
 
 -- ---- integers
 
@@ -396,12 +389,7 @@ bool_same _ _ p q = refl
 
 same_bits : (y z : ℤ) → SFits w128 y → SFits w128 z
     → nat_eq (of_z w128 y) (of_z w128 z) ≡ int_eq y z
-same_bits y z f g = bool_same _ _ (λ e.
-    let same : of_z w128 y ≡ of_z w128 z = (unsigned_Decides (of_z w128 y) (of_z w128 z)).0 e in
-    (signed_Decides y z).1
-    (sym (to_z-of_z w128 y f) ∙ (ap (to_z w128) same ∙ to_z-of_z w128 z g)))
-    (λ e. (unsigned_Decides (of_z w128 y) (of_z w128 z)).1
-    (ap (of_z w128) ((signed_Decides y z).0 e)))
+same_bits y z f g = search (rules, bool_same, unsigned_Decides, signed_Decides, to_z-of_z)
 
 pub unsigned_is : (n : ℕ) (z : ℤ) → n < 2 ^ 64 → SFits w128 z
     → nat_eq n (of_z w128 z) ≡ int_eq (pos n) z
@@ -412,11 +400,7 @@ one_less n = omega (arith, ints)
 
 pub negative_is : (n : ℕ) (z : ℤ) → n < 2 ^ 64 → SFits w128 z
     → nat_eq (of_z w128 (negsuc 0 -ℤ to_z w128 n)) (of_z w128 z) ≡ int_eq (negsuc n) z
-negative_is n z lt g =
-    let less : negsuc 0 -ℤ to_z w128 n ≡ negsuc n =
-    ap (λ y. negsuc 0 -ℤ y) (to_z_pos w128 n (omega arith)) ∙ one_less n in
-    ap (λ y. nat_eq (of_z w128 y) (of_z w128 z)) less
-    ∙ same_bits (negsuc n) z (record { sfits = omega arith }) g
+negative_is n z lt g = search (rules, to_z_pos, one_less, same_bits)
 
 pub integer_unsigned : (z : ℤ) (t : Tree) (n : ℕ) → tree_major t ≡ 0 → tree_argument t ≡ Some n
     → means_integer z t ≡ int_eq (pos n) z
@@ -460,3 +444,361 @@ integer_below _ n l lt e = absurd (omega arith)
 
 pub test_false : (m n : ℕ) → m ≢ n → nat_eq m n ≡ false
 test_false m n h = not_true (nat_eq m n) (λ e. h ((unsigned_Decides m n).0 e))
+
+-- The parts of kept arrays and maps, one after another.
+
+-- ---- an array or a map that is opened
+
+rest_sized : (o : Option ℕ) (n : ℕ) (xs bs : List ℕ) → o ≡ Some n → xs ≡ bs → IsRest o xs n bs
+rest_sized o n xs bs e f = subst (λ l. IsRest l xs n bs) (sym e) (refl, f)
+
+open_ended : (o : Option ℕ) (n : ℕ) (xs bs : List ℕ) → o ≡ None → xs ≡ bs ++ break ∷ []
+    → IsRest o xs n bs
+open_ended o n xs bs e f = subst (λ l. IsRest l xs n bs) (sym e) f
+
+pub array_opens : (t : Tree) (h : Head) → IsHead (tree_major t) (tree_argument t) (tree_content t) h
+    → h.major ≡ 4 → Agrees (λ ts parts. AreToCome parts (count ts) (bytes_all ts)) (array_trees t)
+    (Some (record { left = h.argument; rest = h.rest }))
+array_opens (array w ts) h p m = rest_sized h.argument (count ts) h.rest.now (bytes_all ts) p.1 p.2
+array_opens (array_indefinite ts) h p m =
+    open_ended h.argument (count ts) h.rest.now (bytes_all ts) p.1 p.2
+array_opens (int unsigned n w) h p m = absurd (omega (arith, p.0))
+array_opens (string byte_string w content) h p m = absurd (omega (arith, p.0))
+array_opens (chunked byte_string ts) h p m = absurd (omega (arith, p.0))
+array_opens _ h p m = absurd (omega (arith, p.0))
+
+pub map_opens : (t : Tree) (h : Head) → IsHead (tree_major t) (tree_argument t) (tree_content t) h
+    → h.major ≡ 5 → Agrees (λ ps parts. AreToCome parts (pair_count ps) (bytes_pairs ps))
+    (map_pairs t) (Some (record { left = h.argument; rest = h.rest }))
+map_opens (map_of w ps) h p m = rest_sized h.argument (pair_count ps) h.rest.now (bytes_pairs ps)
+    p.1 p.2
+map_opens (map_indefinite ps) h p m =
+    open_ended h.argument (pair_count ps) h.rest.now (bytes_pairs ps) p.1 p.2
+map_opens (int unsigned n w) h p m = absurd (omega (arith, p.0))
+map_opens (string byte_string w content) h p m = absurd (omega (arith, p.0))
+map_opens (chunked byte_string ts) h p m = absurd (omega (arith, p.0))
+map_opens _ h p m = absurd (omega (arith, p.0))
+
+pub no_array : (t : Tree) {B : Type 0} (R : Trees → B → Type 0) (answer : Option B)
+    → answer ≡ None → tree_major t ≢ 4 → Agrees R (array_trees t) answer
+no_array (array w ts) R answer e n = absurd (n refl)
+no_array (array_indefinite ts) R answer e n = absurd (n refl)
+no_array _ R answer e n = e
+
+pub no_map : (t : Tree) {B : Type 0} (R : Pairs → B → Type 0) (answer : Option B)
+    → answer ≡ None → tree_major t ≢ 5 → Agrees R (map_pairs t) answer
+no_map (map_of w ps) R answer e n = absurd (n refl)
+no_map (map_indefinite ps) R answer e n = absurd (n refl)
+no_map _ R answer e n = e
+
+-- ---- the next part
+
+-- what follows a part
+abbrev tail_of : Option ℕ → List ℕ → List ℕ
+tail_of (Some n) bs = bs
+tail_of None bs = bs ++ break ∷ []
+
+no_break_begins : (xs first bs : List ℕ) → BeginsNoBreak first → xs ≡ first ++ bs → BeginsWithBreak
+    xs → ⊥
+no_break_begins xs first bs p e b = search rules
+
+module _ (left : Option ℕ) (rest : List ℕ) (answer : Option (Option ℕ))
+    (next : IsNextLength left rest answer) where
+  -- where none is left, none comes
+  none_left : (n : ℕ) (first bs : List ℕ) → BeginsNoBreak first → IsRest left rest (suc n)
+      (first ++ bs) → answer ≡ None → ⊥
+  none_left n first bs p r e = by_left left next r
+    where
+      by_left : (left : Option ℕ) → IsNextLength left rest answer
+          → IsRest left rest (suc n) (first ++ bs) → ⊥
+      by_left (Some zero) x r = omega (arith, r.0)
+      by_left (Some (suc k)) x r = let same : Some (Some k) ≡ None = sym x ∙ e in cc
+      by_left None x r =
+          let some : answer ≡ Some None = x.1 (no_break_begins rest first (bs ++ break ∷ []) p
+          (r ∙ append_assoc first bs (break ∷ []))) in cc
+
+  rest_is : (n : ℕ) (first bs : List ℕ) → IsRest left rest n (first ++ bs)
+      → rest ≡ first ++ tail_of left bs
+  rest_is n first bs r = by_left left r
+    where
+      by_left : (left : Option ℕ) → IsRest left rest n (first ++ bs)
+          → rest ≡ first ++ tail_of left bs
+      by_left (Some k) r = r.1
+      by_left None r = r ∙ append_assoc first bs (break ∷ [])
+
+  goes_on : (n : ℕ) (first bs after : List ℕ) (o : Option ℕ) → BeginsNoBreak first
+      → IsRest left rest (suc n) (first ++ bs) → answer ≡ Some o → after ≡ tail_of left bs
+      → IsRest o after n bs
+  goes_on n first bs after o p r e is = by_left left next r is
+    where
+      by_left : (left : Option ℕ) → IsNextLength left rest answer
+          → IsRest left rest (suc n) (first ++ bs) → after ≡ tail_of left bs → IsRest o after n bs
+      by_left (Some zero) x r is = absurd (omega (arith, r.0))
+      by_left (Some (suc k)) x r is =
+          let same : o ≡ Some k = cc in
+          subst (λ l. IsRest l after n bs) (sym same) (omega (arith, r.0), is)
+      by_left None x r is =
+          let some : answer ≡ Some None = x.1 (no_break_begins rest first (bs ++ break ∷ []) p
+          (r ∙ append_assoc first bs (break ∷ []))) in
+          let same : o ≡ None = cc in subst (λ l. IsRest l after n bs) (sym same) is
+
+-- ---- items
+
+module _ (items : RawItems) (after : Option (Option ℕ)) (left_is : IsLeftAfter items.0 after) where
+  pub items_end : (answer : Option RawValue) → after ≡ None → answer ≡ None → (ts : Trees)
+      → ItemsToCome ts items → GivesItem ts items answer
+  items_end answer e none no_trees i = (none, i)
+  items_end answer e none (tree t ts) i =
+      absurd (none_left items.0.left items.0.rest.now after left_is (count ts) (bytes t)
+      (bytes_all ts) (begins t i.loose.0) i.come e)
+
+-- ---- pairs
+
+module _ (pairs : RawPairs) (after : Option (Option ℕ)) (left_is : IsLeftAfter pairs.0 after) where
+  pub pairs_end : (answer : Option (RawValue × RawValue)) → after ≡ None → answer ≡ None
+      → (ps : Pairs) → PairsToCome ps pairs → GivesPair ps pairs answer
+  pairs_end answer e none no_pairs i = (none, i)
+  pairs_end answer e none (pair k v ps) i =
+      absurd (none_left pairs.0.left pairs.0.rest.now after left_is (pair_count ps) (bytes k)
+      (bytes v ++ bytes_pairs ps) (begins k i.loose.0) i.come e)
+
+-- What is found in an encoding is what is found in its value.
+
+-- ---- keys
+
+chunks_are_texts : (ts : Trees) → AreChunks text_string ts → are_whole_texts ts ≡ true
+chunks_are_texts no_trees a = refl
+chunks_are_texts (tree (string text_string w content) ts) a = chunks_are_texts ts a.1
+chunks_are_texts (tree (string byte_string w content) ts) a = cc
+chunks_are_texts (tree _ ts) a = absurd a.0
+
+text_is : (key : List ℕ) (t : Tree) → SoundStrings t
+    → means_text key t ≡ item_eq (value t) (text key)
+text_is key (string byte_string w content) p = refl
+text_is key (chunked text_string ts) p =
+    ap (λ b. b && text_eq (joined_chunks ts) key) (chunks_are_texts ts p.0)
+text_is key (simple simple_false) p = refl
+text_is key _ p = refl
+
+integer_is : (z : ℤ) (t : Tree) → SoundStrings t
+    → means_integer z t ≡ item_eq (value t) (integer z)
+integer_is z (int s n w) p = refl
+integer_is z (string byte_string w content) p = refl
+integer_is z (chunked byte_string ts) p = refl
+integer_is z (simple simple_false) p = refl
+integer_is z _ p = refl
+
+find_same : (key : List ℕ) (ms : ItemPairs) → find_value (text key) ms ≡ find_text key ms
+find_same key no_item_pairs = refl
+find_same key (item_pair k v ms) =
+    ap (λ o. if item_eq k (text key) then Some v else o) (find_same key ms)
+
+-- ---- what is found
+
+encoded : (t : Tree) (n : ℕ) (raw : RawValue) → Plain t → cost t ≤ n → KeepsItem t raw
+    → KeepsEncoding n (value t) raw
+encoded t n raw p le k = (
+  cost t,
+  record {
+    of_tree = t;
+    plain = p;
+    bytes_are = sym k.bytes_are;
+    value_is = refl;
+    cost_is = refl;
+  },
+  le,
+)
+
+some_encoded : (t : Tree) (n : ℕ) (answer : Option RawValue) → Plain t → cost t ≤ n
+    → IsSomeAnd answer (KeepsItem t) → IsSomeAnd answer (KeepsEncoding n (value t))
+some_encoded t n (Some raw) p le k = encoded t n raw p le k
+some_encoded t n None p le k = absurd k
+
+module _ (n : ℕ) (answer : Option RawValue) where
+  module _ (test : Tree → Bool) (key : Item)
+      (same : (t : Tree) → SoundStrings t → test t ≡ item_eq (value t) key) where
+    by_test : (v : Tree) (ps : Pairs) (ms : ItemPairs) (b : Bool) → Plain v → cost v ≤ n
+        → (Agrees KeepsItem (first_value test ps) answer
+        → Agrees (KeepsEncoding n) (find_value key ms) answer)
+        → Agrees KeepsItem (if b then Some v else first_value test ps) answer
+        → Agrees (KeepsEncoding n) (if b then Some (value v) else find_value key ms) answer
+    by_test v ps ms true p le later h = some_encoded v n answer p le h
+    by_test v ps ms false p le later h = later h
+
+    found : (ps : Pairs) → LoosePairs ps → SoundStringsPairs ps → greatest_pair_cost ps ≤ n
+        → Agrees KeepsItem (first_value test ps) answer
+        → Agrees (KeepsEncoding n) (find_value key (pair_values_of ps)) answer
+    found no_pairs l s le h = h
+    found (pair k v ps) l s le h = search (rules, by_test, (found ps l.2 s.2 (omega arith)))
+
+    found_in : (t : Tree) → Plain t → cost t ≤ n
+        → Agrees KeepsItem (option_and_then (first_value test) (map_pairs t)) answer
+        → Agrees (KeepsEncoding n) (option_and_then (find_value key) (as_map (value t))) answer
+    found_in (map_of w ps) p le h = found ps p.0.1 p.1 (omega arith) h
+    found_in (map_indefinite ps) p le h = found ps p.0 p.1 (omega arith) h
+    found_in (string byte_string w content) p le h = h
+    found_in (chunked byte_string ts) p le h = h
+    found_in (simple simple_false) p le h = h
+    found_in _ p le h = h
+
+  placed : (i : ℕ) (ts : Trees) → LooseAll ts → SoundStringsAll ts → greatest_cost ts ≤ n
+      → Agrees KeepsItem (indexed_tree i ts) answer
+      → Agrees (KeepsEncoding n) (indexed_value i (values ts)) answer
+  placed i no_trees l s le h = h
+  placed zero (tree t ts) l s le h = some_encoded t n answer (l.0, s.0) (omega arith) h
+  placed (suc i) (tree t ts) l s le h = placed i ts l.1 s.1 (omega arith) h
+
+  placed_in : (i : ℕ) (t : Tree) → Plain t → cost t ≤ n
+      → Agrees KeepsItem (option_and_then (indexed_tree i) (array_trees t)) answer
+      → Agrees (KeepsEncoding n) (option_and_then (indexed_value i) (as_array (value t))) answer
+  placed_in i (array w ts) p le h = placed i ts p.0.1 p.1 (omega arith) h
+  placed_in i (array_indefinite ts) p le h = placed i ts p.0 p.1 (omega arith) h
+  placed_in i (string byte_string w content) p le h = h
+  placed_in i (chunked byte_string ts) p le h = h
+  placed_in i (simple simple_false) p le h = h
+  placed_in i _ p le h = h
+
+-- ---- of an encoding
+
+-- the tree that an encoding keeps
+kept : (raw : RawValue) (v : Item) (steps : ℕ) (e : Encodes (raw_content raw) v steps)
+    → KeepsItem e.of_tree raw
+kept raw v steps e = record { loose = e.plain.0; bytes_are = sym e.bytes_are }
+
+at_most : (m n : ℕ) → m ≡ n → m ≤ n
+at_most m n e = omega arith
+
+find_in : (key : List ℕ) (o : Option ItemPairs)
+    → option_and_then (find_value (text key)) o ≡ option_and_then (find_text key) o
+find_in key None = refl
+find_in key (Some ms) = find_same key ms
+
+module _ (raw : RawValue) (answer : Option RawValue) (v : Item) (steps : ℕ)
+    (e : Encodes (raw_content raw) v steps) where
+  pub text_found : (key : List ℕ) → ((t : Tree) → KeepsItem t raw → Agrees KeepsItem
+      (option_and_then (first_value (means_text key)) (map_pairs t)) answer)
+      → Agrees (KeepsEncoding steps) (option_and_then (find_text key) (as_map v)) answer
+  text_found key h =
+      subst (λ o. Agrees (KeepsEncoding steps) o answer)
+      (ap (λ w. option_and_then (find_value (text key)) (as_map w)) e.value_is
+      ∙ find_in key (as_map v)) (found_in steps answer (means_text key) (text key) (text_is key)
+      e.of_tree e.plain (at_most (cost e.of_tree) steps e.cost_is)
+      (h e.of_tree (kept raw v steps e)))
+
+  pub integer_found : (z : ℤ) → ((t : Tree) → KeepsItem t raw → Agrees KeepsItem
+      (option_and_then (first_value (means_integer z)) (map_pairs t)) answer)
+      → Agrees (KeepsEncoding steps) (option_and_then (find_value (integer z)) (as_map v)) answer
+  integer_found z h =
+      subst (λ w. Agrees (KeepsEncoding steps) (option_and_then (find_value (integer z))
+      (as_map w)) answer) e.value_is (found_in steps answer (means_integer z) (integer z)
+      (integer_is z) e.of_tree e.plain (at_most (cost e.of_tree) steps e.cost_is)
+      (h e.of_tree (kept raw v steps e)))
+
+  pub place_found : (i : ℕ) → ((t : Tree) → KeepsItem t raw → Agrees KeepsItem
+      (option_and_then (indexed_tree i) (array_trees t)) answer)
+      → Agrees (KeepsEncoding steps) (option_and_then (indexed_value i) (as_array v)) answer
+  place_found i h = search (rules, placed_in, at_most, kept)
+
+-- Keys and places that are looked for, part by part.
+
+-- ---- by a key
+
+-- what is found among these pairs is found among those to come
+pub record FoundLater (test : Tree → Bool) (ps : Pairs) (pairs : RawPairs) : Type 0 where
+  pub more : Pairs
+  pub come : PairsToCome more pairs
+  pub same : first_value test ps ≡ first_value test more
+
+abbrev pub Searches : (Tree → Bool) → RawPairs → RawPairs → Type 0
+Searches test initial pairs = (ps : Pairs) → PairsToCome ps initial → FoundLater test ps pairs
+
+module _ (test : Tree → Bool) (initial old new : RawPairs)
+    (answer : Option (RawValue × RawValue)) (searches : Searches test initial old)
+    (gives : (ps : Pairs) → PairsToCome ps old → GivesPair ps new answer) (ps : Pairs)
+    (p : PairsToCome ps initial) where
+  abbrev here : FoundLater test ps old
+  here = searches ps p
+
+  -- what was given is the next of these
+  next_pair : (more : Pairs) → GivesPair more new answer → (found : RawValue × RawValue)
+      → answer ≡ Some found → (k v : Tree) × (qs : Pairs) × (more ≡ pair k v qs)
+      × KeepsItem k found.0 × KeepsItem v found.1 × PairsToCome qs new
+  next_pair no_pairs g found e = let none = g.0 in cc
+  next_pair (pair k v qs) g found e = search rules
+
+  pub search_ends : answer ≡ None → Agrees KeepsItem (first_value test ps) None
+  search_ends e =
+      subst (λ o. Agrees KeepsItem o None)
+      (sym (here.same ∙ by_more here.more (gives here.more here.come))) refl
+    where
+      by_more : (more : Pairs) → GivesPair more new answer → first_value test more ≡ None
+      by_more no_pairs g = refl
+      by_more (pair k v qs) g =
+          absurd (subst (λ (o : Option (RawValue × RawValue)). IsSomeAnd o
+          (λ p. KeepsItem k p.0 × KeepsItem v p.1)) e g.0)
+
+  -- where the test of its key says so
+  tested : {more qs : Pairs} {k v : Tree} {b : Bool} → first_value test ps ≡ first_value test more
+      → more ≡ pair k v qs → test k ≡ b
+      → first_value test ps ≡ (if b then Some v else first_value test qs)
+  tested {qs = qs} {v = v} same is e =
+      same ∙ ap (first_value test) is ∙ ap (λ b. if b then Some v else first_value test qs) e
+
+  pub search_goes_on : (found : RawValue × RawValue) → answer ≡ Some found
+      → ((k : Tree) → KeepsItem k found.0 → test k ≡ false) → FoundLater test ps new
+  search_goes_on found e f =
+      let n = next_pair here.more (gives here.more here.come) found e in
+      record { more = n.2; come = n.6; same = tested here.same n.3 (f n.0 n.4) }
+
+  pub search_finds : (found : RawValue × RawValue) → answer ≡ Some found
+      → ((k : Tree) → KeepsItem k found.0 → test k ≡ true)
+      → Agrees KeepsItem (first_value test ps) (Some found.1)
+  search_finds found e f = search (rules, next_pair, tested)
+
+-- ---- by a place
+
+-- the item at this place of these is at that place of those to come
+pub record PlacedLater (index place : ℕ) (ts : Trees) (items : RawItems) : Type 0 where
+  pub more : Trees
+  pub come : ItemsToCome more items
+  pub same : indexed_tree index ts ≡ indexed_tree place more
+
+abbrev pub Counts : ℕ → ℕ → RawItems → RawItems → Type 0
+Counts index counter initial items =
+    (ts : Trees) → ItemsToCome ts initial → PlacedLater index (index - counter) ts items
+
+module _ (index place : ℕ) (ts : Trees) (new : RawItems) (answer : Option RawValue) where
+  item_passes : (more : Trees) (after : ℕ) → place ≡ suc after
+      → indexed_tree index ts ≡ indexed_tree place more → GivesItem more new answer
+      → (found : RawValue) → answer ≡ Some found → PlacedLater index after ts new
+  item_passes no_trees after next same g found e = let none = g.0 in cc
+  item_passes (tree t us) after next same g found e = search rules
+
+  item_is : (more : Trees) → place ≡ 0 → indexed_tree index ts ≡ indexed_tree place more
+      → GivesItem more new answer → Agrees KeepsItem (indexed_tree index ts) answer
+  item_is no_trees zeroth same g = subst (λ o. Agrees KeepsItem o answer) (sym same) g.0
+  item_is (tree t us) zeroth same g = search rules
+
+module _ (index counter : ℕ) (initial old new : RawItems) (answer : Option RawValue)
+    (counts : Counts index counter initial old)
+    (gives : (ts : Trees) → ItemsToCome ts old → GivesItem ts new answer) (ts : Trees)
+    (p : ItemsToCome ts initial) where
+  abbrev there : PlacedLater index (index - counter) ts old
+  there = counts ts p
+
+  pub count_goes_on : (found : RawValue) → answer ≡ Some found → counter < index
+      → PlacedLater index (index - (counter + 1)) ts new
+  count_goes_on found e lt = search (rules, item_passes)
+
+  pub count_finds : counter ≡ index → Agrees KeepsItem (indexed_tree index ts) answer
+  count_finds e = search (rules, item_is)
+
+-- ---- in what was opened
+
+pub within : {A B : Type 0} (K : A → B → Type 0) (find : A → Option Tree) (o : Option A)
+    (opened : Option B) (kept : B) (answer : Option RawValue) → Agrees K o opened
+    → opened ≡ Some kept → ((x : A) → K x kept → Agrees KeepsItem (find x) answer)
+    → Agrees KeepsItem (option_and_then find o) answer
+within K find None opened kept answer h e f = cc
+within {B = B} K find (Some x) opened kept answer h e f =
+    f x (subst (λ (o : Option B). IsSomeAnd o (K x)) e h)

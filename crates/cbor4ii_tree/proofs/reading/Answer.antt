@@ -1,12 +1,11 @@
 -- Reading a value has one answer for each input and budget.
-use Rattle.std.proofs.Common.{◌≡◌, ℕ, inl, inr, List, ◌++◌, Ok, Err, refl, sym, ap, ◌∙◌}
+use Rattle.std.proofs.Common.{◌≡◌, ℕ, inl, inr, List, ◌++◌, Ok, Err, refl, ap, ◌∙◌, rules}
 use Rattle.cbor4ii_items.specs.Head.{IsBytes}
-use Rattle.cbor4ii_tree.specs.Basis.{Cost.{Budget, cost}, Encodings.{DecodesTo, SomeAnswer}}
-use Rattle.cbor4ii_tree.specs.Basis.{Encodings.AtMostOne, InputError.InputError, Item.Item}
-use Rattle.cbor4ii_tree.specs.Basis.{Meaning.value, Tree.{Tree, bytes}}
+use Rattle.cbor4ii_tree.specs.Basis.{Cost.Budget, Encodings.{DecodesTo, SomeAnswer, AtMostOne}}
+use Rattle.cbor4ii_tree.specs.Basis.{InputError.InputError, Item.Item, Meaning.value, Tree.Tree}
+use Rattle.cbor4ii_tree.specs.{Basis.Tree.bytes, Calls.Read.{parse_value, read_tree}}
+use Rattle.cbor4ii_tree.specs.Calls.ReadingRejects.{Readable, ReadingRejects, reading_profile}
 use Rattle.cbor4ii_tree.specs.Laws.Binds.{answer_parts, bind_ok, bind_err, then_err, no_err}
-use Rattle.cbor4ii_tree.specs.Calls.{Read.{parse_value, read_tree}, ReadingRejects.Readable}
-use Rattle.cbor4ii_tree.specs.Calls.ReadingRejects.{ReadingRejects, reading_profile}
 use Rattle.cbor4ii_tree.proofs.answers.Answers.{some_answer_of, at_most_one_of}
 use Rattle.cbor4ii_tree.proofs.profile.Answer.{Takes, at_from_takes, takes_from_at, at_from_rejects}
 use Rattle.cbor4ii_tree.proofs.profile.Answer.{rejects_from_at, reading_laws}
@@ -15,24 +14,12 @@ use Rattle.cbor4ii_tree.proofs.profile.Answer.{rejects_from_at, reading_laws}
 pub tree_of : {input : List ℕ} {budget : Budget} {v : Item} {rest : List ℕ}
     → DecodesTo input budget v rest
     → (t : Tree) × Takes reading_profile input budget t rest × (value t ≡ v)
-tree_of {rest = rest} r =
-    let s = r.encodes in (
-      s.of_tree,
-      ((s.plain, rw s.cost_is r.fits), r.begins ∙ ap (λ x. x ++ rest) (sym s.bytes_are)),
-      s.value_is,
-    )
+tree_of {rest = rest} r = search rules
 
 -- what begins with the bytes of a plain tree that fits decodes to its value
 pub decodes_tree : (t : Tree) (budget : Budget) (input : List ℕ) (v : Item) (rest : List ℕ)
     → Readable budget t → value t ≡ v → input ≡ bytes t ++ rest → DecodesTo input budget v rest
-decodes_tree t budget input v rest w same begins = record {
-  encoding = bytes t;
-  steps = cost t;
-  encodes =
-      record { of_tree = t; plain = w.0; bytes_are = refl; value_is = same; cost_is = refl };
-  fits = w.1;
-  begins = begins;
-}
+decodes_tree t budget input v rest w same begins = search rules
 
 pub read_from_Reads : (input : List ℕ) (budget : Budget) (v : Item) (rest : List ℕ)
     → DecodesTo input budget v rest → parse_value budget input ≡ Ok (v, rest)
@@ -52,17 +39,12 @@ Reads_from_read input budget v rest h e =
 
 pub read_from_Rejects : (input : List ℕ) (budget : Budget) (e : InputError) (rest : List ℕ)
     → ReadingRejects input budget e rest → parse_value budget input ≡ Err (e, rest)
-read_from_Rejects input budget e rest s =
-    then_err (read_tree budget input) _ (e, rest)
-    (at_from_rejects reading_laws input budget e rest s)
+read_from_Rejects input budget e rest s = search (rules, then_err, at_from_rejects, reading_laws)
 
 pub Rejects_from_read : (input : List ℕ) (budget : Budget) (e : InputError) (rest : List ℕ)
     → IsBytes input → parse_value budget input ≡ Err (e, rest) → ReadingRejects input budget e rest
 Rejects_from_read input budget e rest h x =
-    elim (bind_err (read_tree budget input) (λ p. Ok (value p.0, p.1)) (e, rest) x) [
-      | inl g ↦ rejects_from_at reading_laws input budget e rest h g
-      | inr g ↦ absurd (no_err {A = Item} _ _ g.2)
-    ]
+    search (rules, bind_err, inl, rejects_from_at, reading_laws, inr, no_err)
 
 pub some_reading : (input : List ℕ) (budget : Budget) → IsBytes input
     → SomeAnswer (DecodesTo input budget) (ReadingRejects input budget)

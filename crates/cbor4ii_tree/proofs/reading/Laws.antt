@@ -1,14 +1,13 @@
 -- What each error of reading a value says of the bytes that may still come; what is read is
 -- skipped, and reads back.
-use Rattle.std.proofs.Common.{◌≡◌, ℕ, ◌<◌, ◌≤◌, ◌^◌, List, [], ◌++◌, length, refl, sym, ap, ◌∙◌}
-use Rattle.std.proofs.Common.{subst, arith}
+use Rattle.std.proofs.Common.{◌≡◌, ℕ, ◌<◌, ◌≤◌, ◌^◌, List, [], ◌++◌, length, refl, subst, rules}
 use Rattle.cbor4ii_items.specs.{Budget.CostFits, Head.IsBytes, Laws.SequenceParts.fits_less}
 use Rattle.cbor4ii_tree.specs.Basis.Canonical.{canonical_encoding, canonical_cost, with_bignums}
-use Rattle.cbor4ii_tree.specs.{Basis.Cost.{Budget, cost}, Basis.Encodings.{Encodes, DecodesTo}}
+use Rattle.cbor4ii_tree.specs.{Basis.Cost.{Budget}, Basis.Encodings.{Encodes, DecodesTo}}
 use Rattle.cbor4ii_tree.specs.{Basis.Encodings.{Skips, IsProperPrefix}, Basis.InputError.InputError}
 use Rattle.cbor4ii_tree.specs.Basis.InputError.{eof, depth_overflow, Len, IsFinal}
 use Rattle.cbor4ii_tree.specs.{Basis.Item.{Item, IsItem}, Laws.Ignoring.one_encoding}
-use Rattle.cbor4ii_tree.specs.{Basis.Meaning.value, Calls.ReadingRejects.ReadingRejects}
+use Rattle.cbor4ii_tree.specs.{Calls.ReadingRejects.ReadingRejects}
 use Rattle.cbor4ii_tree.specs.Basis.Tree.{Tree, bytes, Loose, Joins}
 use Rattle.cbor4ii_tree.proofs.encodings.CanonicalShape.{canonical_encodes, with_bignums-value}
 use Rattle.cbor4ii_tree.proofs.encodings.Sizes.{skip_cost-le, cost-canonical_encoding, IsItem-value}
@@ -30,7 +29,7 @@ pub eof_on_prefix : (input : List ℕ) (budget : Budget) (name : List ℕ) (expe
     (t : Tree) × Loose t × Joins t × IsBytes (bytes t) × IsProperPrefix input (bytes t)
 eof_on_prefix input budget name expect rest h s =
     let t = items.eof_on_prefix reading_laws input budget
-    (eof name expect) rest h tt s in (t.0, t.1.0, t.1.1, t.2, t.3)
+    (eof name expect) rest h tt s in (t.0, t.1.0, t.1.1 refl, t.2, t.3)
 
 pub depth_stays : (input more : List ℕ) (budget : Budget) (name rest : List ℕ) (v : Item)
     (x : List ℕ) → ReadingRejects input budget (depth_overflow name) rest
@@ -51,22 +50,13 @@ final_stays input more budget other e rest v x h rejects s =
 -- one input has one encoding of one value at one cost
 pub one_encoded : (s t : List ℕ) (v w : Item) (c d : ℕ) (x y : List ℕ) → Encodes s v c
     → Encodes t w d → s ++ x ≡ t ++ y → (s ≡ t) × (v ≡ w) × (c ≡ d) × (x ≡ y)
-one_encoded s t v w c d x y p q e =
-    let same = one_encoding p.of_tree q.of_tree x y p.plain.0 q.plain.0
-    (ap (λ r. r ++ x) p.bytes_are ∙ e ∙ ap (λ r. r ++ y) (sym q.bytes_are)) in (
-      sym p.bytes_are ∙ ap bytes same.0 ∙ q.bytes_are,
-      sym p.value_is ∙ ap value same.0
-          ∙ q.value_is,
-      sym p.cost_is ∙ ap cost same.0 ∙ q.cost_is,
-      same.1,
-    )
+one_encoded s t v w c d x y p q e = search (rules, one_encoding)
 
 -- what is read is skipped
 pub skips_what_reads : (input : List ℕ) (budget : Budget) (v : Item) (rest : List ℕ)
     → DecodesTo input budget v rest → (t : Tree) × Skips input budget t rest
 skips_what_reads input budget v rest r =
-    let t = tree_of r in
-    (t.0, skips_by t.1.0.0.0 (fits_less _ _ budget (skip_cost-le t.0 t.1.0.0.1) t.1.0.1) t.1.1)
+    search (rules, tree_of, skips_by, fits_less, skip_cost-le)
 
 -- ---- the canonical encoding
 
@@ -77,9 +67,7 @@ encoded_has_bignums encoding v steps s =
 
 pub canonical_costs_least : (encoding : List ℕ) (v : Item) (steps : ℕ) → Encodes encoding v steps
     → canonical_cost v ≤ steps
-canonical_costs_least encoding v steps s =
-    subst (λ w. canonical_cost w ≤ steps) s.value_is (subst (λ c. canonical_cost (value s.of_tree)
-    ≤ c) s.cost_is (cost-canonical_encoding s.of_tree s.plain.0))
+canonical_costs_least encoding v steps s = search (rules, cost-canonical_encoding)
 
 pub reads_back : (encoding : List ℕ) (v : Item) (steps : ℕ) (budget : Budget) (more : List ℕ)
     → IsItem v → Encodes encoding v steps → CostFits steps budget
@@ -98,16 +86,8 @@ reads_back encoding v steps budget more h s f = record {
 pub reads_back_tagged : (v : Item) (budget : Budget) (more : List ℕ) → IsItem v
     → CostFits (canonical_cost v) budget → DecodesTo (canonical_encoding v ++ more) budget
     (with_bignums v) more
-reads_back_tagged v budget more h f = record {
-  encoding = canonical_encoding v;
-  steps = canonical_cost v;
-  encodes = canonical_encodes v h;
-  fits = f;
-  begins = refl;
-}
+reads_back_tagged v budget more h f = search (rules, canonical_encodes)
 
 pub encoded_is_item : (encoding : List ℕ) (v : Item) (steps : ℕ) → length encoding < 2 ^ 64
     → Encodes encoding v steps → IsItem v
-encoded_is_item encoding v steps lt s =
-    let same : length (bytes s.of_tree) ≡ length encoding = ap length s.bytes_are in
-    subst IsItem s.value_is (IsItem-value s.of_tree s.plain.0 s.plain.1 (omega arith))
+encoded_is_item encoding v steps lt s = search (rules, IsItem-value)

@@ -1,10 +1,10 @@
 -- Bytes that are skipped, prefix by prefix, and the arguments of heads.
-use Rattle.std.proofs.Common.{◌≡◌, ℕ, ◌+◌, ◌-◌, ◌*◌, ◌^◌, ◌<◌, ◌≤◌, List, [], ◌∷◌, ◌++◌, length}
+use Rattle.std.proofs.Common.{◌≡◌, ℕ, ◌+◌, ◌-◌, ◌*◌, ◌^◌, ◌<◌, ◌≤◌, List, [], ◌∷◌, ◌++◌}
 use Rattle.std.proofs.Common.{true, false, refl, sym, ap, ◌∙◌, subst, arith, append_assoc}
-use Rattle.std.proofs.Common.{length-append, ltb, ltb-true, ltb-false, lt-ltb, Bool}
+use Rattle.std.proofs.Common.{length-append, ltb, ltb-true, ltb-false, lt-ltb, Bool, rules}
 use Rattle.std.proofs.{lemmas.List.Sums.fold-append, Math.Nat.pow-le-pow_right}
 use Rattle.cbor4ii_rw.specs.{declared.error.Len.Len, declared.error.Len.TheVariants.{Small, Big}}
-use Rattle.cbor4ii_items.specs.{Head.Width, Initial.{info_of, wide}, InputError.{InputError, eof}}
+use Rattle.cbor4ii_items.specs.{Head.Width, Initial.{info_of, wide}, InputError.{InputError}}
 use Rattle.cbor4ii_items.specs.InputError.{len_of}
 use Rattle.cbor4ii_tree.proofs.heads.Means.{WidthSays, InfoSays, info_says}
 use Rattle.cbor4ii_tree.proofs.parts.Prefixes.{IsBytes-append}
@@ -43,20 +43,11 @@ dropped_more count missing n xs ys zs d s = (
 
 pub dropped_cut : (name : List ℕ) (count missing : ℕ) (xs ys : List ℕ) (e : InputError) (rest : List
     ℕ) → Dropped count missing xs ys → Missing name missing ys e rest → Missing name count xs e rest
-dropped_cut name count missing xs ys e rest d m =
-    let size : length xs ≡ d.0 + length ys =
-    omega (arith, ap length d.2.is, length-append d.2.content ys, d.2.size) in
-    let gap : missing - length ys ≡ count - length xs = omega (arith, size, d.1, m.0) in
-    (omega (arith, size, d.1, m.0), (m.1.0 ∙ ap (λ j. eof name (len_of j)) gap, m.1.1))
+dropped_cut name count missing xs ys e rest d m = search (rules, length-append)
 
 pub dropped_all : (count missing : ℕ) (xs ys : List ℕ) → missing ≡ 0 → Dropped count missing xs ys
     → DropsBytes count xs ys
-dropped_all count missing xs ys none d = record {
-  content = d.2.content;
-  size = omega (arith, d.2.size, d.1, none);
-  bytes = d.2.bytes;
-  is = d.2.is;
-}
+dropped_all count missing xs ys none d = search rules
 
 -- ---- numbers
 
@@ -78,11 +69,7 @@ number_more i value b xs ys zs small t h = (
 pub number_cut : (name : List ℕ) (k i value : ℕ) (xs ys : List ℕ) (e : InputError)
     (rest : List ℕ) → i < k → k ≤ 8 → TakesNumber i xs value ys → NoByte name k ys e rest
     → MissingAll name k xs e rest
-number_cut name k i value xs ys e rest less few t h =
-    let size : length xs ≡ i =
-    omega (arith, ap length t.0.is, length-append t.0.content ys, t.0.size, ap length h.0) in
-    let is : Small k ≡ len_of k = rw (lt-ltb k 65536 (omega (arith, few))) refl in
-    (omega (arith, size, less), (h.1.0 ∙ ap (eof name) is, h.1.1))
+number_cut name k i value xs ys e rest less few t h = search (rules, length-append, lt-ltb)
 
 pub small_number : (value i : ℕ) → value < 256 ^ i → i ≤ 8 → value < 2 ^ 64
 small_number value i h le =

@@ -1,13 +1,13 @@
 -- Calls of decoders whose items nest, one after another.
 use Rattle.std.proofs.Common.{◌≡◌, ℕ, zero, suc, ◌+◌, ◌-◌, ◌≤◌, List, drop, Option, Some, None}
 use Rattle.std.proofs.Common.{Result, Ok, Err, Bool, true, false, IsTrue, refl, sym, ap, ◌∙◌, subst}
-use Rattle.std.proofs.Common.{arith, IfSome, IfOk, ◌≢◌, [], ◌∷◌}
+use Rattle.std.proofs.Common.{arith, IfSome, IfOk, ◌≢◌, [], ◌∷◌, rules}
 use Rattle.cbor4ii_rw.specs.{View.{IfKnown, View}, Reader.{KeepsAllButBudget, StepsIn, step_back}}
 use Rattle.cbor4ii_rw.specs.declared.error.DecodeError.{DecodeError}
 use Rattle.cbor4ii_rw.specs.declared.error.DecodeError.TheVariants.{OutOfMemory}
 use Rattle.cbor4ii_items.specs.{Budget.CostFits, Decoding.{Sound, Rejects}, InputError.InputError}
 use Rattle.cbor4ii_items.specs.InputError.{input_error_of, is_read, is_depth_overflow}
-use Rattle.cbor4ii_items.specs.{InputError.depth_overflow, Moves.{Kept, Moves, is_failure}}
+use Rattle.cbor4ii_items.specs.{InputError.depth_overflow, Moves.{Kept, Moves}}
 use Rattle.cbor4ii_items.specs.{Head.break, Strings.{ReadsBreak, RejectsBreak}}
 use Rattle.cbor4ii_items.specs.Laws.{Running.{kept_alike, no_failure}, Steps.moves_then}
 use Rattle.cbor4ii_items.specs.Laws.Steps.{moves_err, kept_then, counted_none}
@@ -80,9 +80,7 @@ pub does_with : {U V E : Type 0} (f : U → V) (P : List ℕ → List ℕ → Ty
     → ((xs ys zs : List ℕ) (u : U) → P xs ys → A ys u zs → B xs (f u) zs)
     → ((xs ys : List ℕ) (e : InputError) (rest : List ℕ) → P xs ys → S ys e rest → T xs e rest)
     → Reached P a m → Does A S m b r → Does B T a b (with f r)
-does_with f P A B S T {r = Ok u} g h p d =
-    does_ok B T (reached_then P (λ xs ys. A xs u ys) (λ xs ys. B xs (f u) ys)
-    (λ xs ys zs. g xs ys zs u) p (reached_by d))
+does_with f P A B S T {r = Ok u} g h p d = search (rules, does_ok, reached_then, reached_by)
 does_with f P A B S T {r = Err e} g h p d = does_err P A B S T h p d
 
 pub does_after : {V E : Type 0} (P : List ℕ → List ℕ → Type 0) (A B : Accepting V)
@@ -116,12 +114,7 @@ pub does_reject_by : {V E : Type 0} (P : List ℕ → List ℕ → Type 0) (B : 
     (z : InputError) {e : DecodeError E} {a b : View} → input_error_of e ≡ Some z
     → is_read e ≡ false → (a.budget ≡ None → is_depth_overflow e ≡ false)
     → ((xs ys : List ℕ) → P xs ys → T xs z ys) → Reached P a b → Does {V = V} B T a b (Err e)
-does_reject_by P B T z {e = e} {a = a} {b = b} is read shallow f p = record {
-  moves = record { by = no_failure (is_read e) a b read p.kept; depth = shallow };
-  ok = tt;
-  err = λ xs known. let s = p.at xs known in
-      says (λ z. (ys : List ℕ) × (b.known ≡ Some ys) × T xs z ys) is (s.0, s.1, f xs s.0 s.2);
-}
+does_reject_by P B T z {e = e} {a = a} {b = b} is read shallow f p = search (rules, no_failure, says)
 
 pub does_reject : {V E : Type 0} (P : List ℕ → List ℕ → Type 0) (B : Accepting V) (T : Rejection)
     (z : InputError) {e : DecodeError E} {a b : View} → input_error_of e ≡ Some z
@@ -167,29 +160,11 @@ steps_in (Some (suc left)) new h =
 -- ---- what moves the budget alone
 
 pub keeps_alike : (a b : View) → b ≡ a → KeepsAllButBudget a b
-keeps_alike a b same = record {
-  known = ap (λ (v : View). v.known) same;
-  bound = ap (λ (v : View). v.bound) same;
-  advanceable = ap (λ (v : View). v.advanceable) same;
-  failures = ap (λ (v : View). v.failures) same;
-  taken = ap (λ (v : View). v.taken) same;
-  zero_copy = ap (λ (v : View). v.zero_copy) same;
-  remembers = ap (λ (v : View). v.remembers) same;
-  ends_at = ap (λ (v : View). v.ends_at) same;
-}
+keeps_alike a b same = search rules
 
 pub keeps_then : {a b c : View} → KeepsAllButBudget a b → KeepsAllButBudget b c
     → KeepsAllButBudget a c
-keeps_then p q = record {
-  known = q.known ∙ p.known;
-  bound = q.bound ∙ p.bound;
-  advanceable = q.advanceable ∙ p.advanceable;
-  failures = q.failures ∙ p.failures;
-  taken = q.taken ∙ p.taken;
-  zero_copy = q.zero_copy ∙ p.zero_copy;
-  remembers = q.remembers ∙ p.remembers;
-  ends_at = q.ends_at ∙ p.ends_at;
-}
+keeps_then p q = search rules
 
 -- the same where bytes stand apart from the reader
 module _ {t : Bool} {a b : View} where
@@ -207,10 +182,7 @@ stays_put {a = a} apart = keeps_alike a a refl
 moves_between : {V E : Type 0} {r : Result V (DecodeError E)} {a b c d : View}
     → KeepsAllButBudget a b → KeepsAllButBudget c d → (a.budget ≡ None → b.budget ≡ None)
     → (c.budget ≡ b.budget → d.budget ≡ a.budget) → Moves b c r → Moves a d r
-moves_between {r = r} inward outward unbound restored m = record {
-  by = moves_around inward outward (is_failure r) restored m.by;
-  depth = λ none. m.depth (unbound none);
-}
+moves_between {r = r} inward outward unbound restored m = search (rules, moves_around)
 
 pub does_around : {V E : Type 0} (A B : Accepting V) (S T : Rejection) {r : Result V
     (DecodeError E)}
@@ -218,12 +190,7 @@ pub does_around : {V E : Type 0} (A B : Accepting V) (S T : Rejection) {r : Resu
     → ((xs : List ℕ) (e : InputError) (rest : List ℕ) → S xs e rest → T xs e rest)
     → KeepsAllButBudget a b → KeepsAllButBudget c d → (a.budget ≡ None → b.budget ≡ None)
     → (c.budget ≡ b.budget → d.budget ≡ a.budget) → Does A S b c r → Does B T a d r
-does_around A B S T {r = Ok v} f g inward outward unbound restored w = record {
-  moves = moves_between inward outward unbound restored w.moves;
-  ok = λ xs known. let t = w.ok xs (inward.known ∙ known) in
-      (t.0, outward.known ∙ t.1, f xs t.0 v t.2);
-  err = tt;
-}
+does_around A B S T {r = Ok v} f g inward outward unbound restored w = search (rules, moves_between)
 does_around A B S T {r = Err e} f g inward outward unbound restored w = record {
   moves = moves_between inward outward unbound restored w.moves;
   ok = tt;
@@ -248,16 +215,7 @@ does_stepped A B S T {a = a} {b = b} f g takes inward w gives outward =
     (λ same. gives ∙ (ap step_back same ∙ step_again a.budget b.budget takes)) w
 
 pub kept_budget : (a b : View) → KeepsAllButBudget a b → b.budget ≡ a.budget → Kept a b
-kept_budget a b k same = record {
-  rest = λ xs known. (0, record { left = k.known ∙ known; within = omega arith; bytes = tt });
-  counted = counted_none a b (λ xs known. k.known ∙ known) k.taken;
-  bound = omega (arith, k.bound);
-  budget = same;
-  failures = k.failures;
-  zero_copy = λ h. subst IsTrue (sym k.zero_copy) h;
-  remembers = λ h. subst IsTrue (sym k.remembers) h;
-  ends_at = k.ends_at;
-}
+kept_budget a b k same = search (rules, counted_none)
 
 -- no step is left
 pub does_no_step : {V E : Type 0} (name : List ℕ) (A : Accepting V) (T : Rejection)
@@ -265,17 +223,12 @@ pub does_no_step : {V E : Type 0} (name : List ℕ) (A : Accepting V) (T : Rejec
     → is_read e ≡ false → (a.budget ≡ Some 0 → (xs : List ℕ) → T xs (depth_overflow name) xs)
     → StepsIn a.budget b.budget false → KeepsAllButBudget a b → Does {V = V} A T a b (Err e)
 does_no_step name A T {a = a} {b = b} is read f takes k =
-    let n = no_step a.budget b.budget takes in
-    does_reject_by (λ xs ys. xs ≡ ys) A T (depth_overflow name) is read (λ none. let never : None
-    ≡ Some 0 = sym none ∙ n.0 in cc) (λ xs ys same. subst (T xs (depth_overflow name)) same (f n.0
-    xs)) (record { kept = kept_budget a b k n.1; at = λ xs known. (xs, k.known ∙ known, refl) })
+    search (rules, no_step, does_reject_by, kept_budget)
 
 -- there was no memory
 pub does_no_memory : {V E : Type 0} (A : Accepting V) (S : Rejection) {e : DecodeError E}
     {a b : View} → e ≡ OutOfMemory → Kept a b → Does {V = V} A S a b (Err e)
-does_no_memory {V = V} {E = E} A S {a = a} {b = b} is p =
-    subst (λ (z : DecodeError E). Does {V = V} A S a b (Err z)) (sym is)
-    (record { moves = record { by = p; depth = λ none. refl }; ok = tt; err = λ xs known. tt })
+does_no_memory {V = V} {E = E} A S {a = a} {b = b} is p = search rules
 
 -- ---- what follows under the same budget
 
@@ -335,30 +288,15 @@ pub apart_with : {U V E : Type 0} (f : U → V) {A : Budget → Accepting U} {B 
     {o p i a m b c : View} {r : Result U (DecodeError E)} → DoesUnder B T a c (with f r)
     → IfOk (with f r) (H a.bound c.bound) → (IsTrue t → KeepsAllButBudget o p)
     → DoesApart A S G t p i m b r → DoesApart B T H t o i a c (with f r)
-apart_with f {r = Ok u} does gains before d = record {
-  does = does;
-  spares = tt;
-  gains = gains;
-  stays = stays_then before d.stays;
-}
-apart_with f {r = Err e} does gains before d = record {
-  does = does;
-  spares = d.spares;
-  gains = tt;
-  stays = stays_then before d.stays;
-}
+apart_with f {r = Ok u} does gains before d = search (rules, stays_then)
+apart_with f {r = Err e} does gains before d = search (rules, stays_then)
 
 -- a call that answers the same
 pub apart_on : {V E : Type 0} {A B : Budget → Accepting V} {S T : Budget → Rejection}
     {G H : ℕ → ℕ → V → Type 0} {t : Bool} {o p i a m b : View} {r : Result V (DecodeError E)}
     → DoesUnder B T a b r → IfOk r (H a.bound b.bound) → (IsTrue t → KeepsAllButBudget o p)
     → DoesApart A S G t p i m b r → DoesApart B T H t o i a b r
-apart_on does gains before d = record {
-  does = does;
-  spares = d.spares;
-  gains = gains;
-  stays = stays_then before d.stays;
-}
+apart_on does gains before d = search (rules, stays_then)
 
 -- what is said of the bound, in other words
 pub apart_gains : {V E : Type 0} {A : Budget → Accepting V} {S : Budget → Rejection} {G H : ℕ → ℕ

@@ -1,18 +1,17 @@
 -- Calls after a first byte, where items are skipped.
 use Rattle.std.proofs.Common.{◌≡◌, ℕ, ◌⊎◌, inl, inr, List, ◌∷◌, Ok, Err, Option, Some, None, false}
 use Rattle.std.proofs.Common.{refl, sym, ◌∙◌, subst}
-use Rattle.cbor4ii_rw.specs.{View.View, Reader.Advances, declared.error.DecodeError.DecodeError}
+use Rattle.cbor4ii_rw.specs.{Reader.Advances, View.View, declared.error.DecodeError.DecodeError}
 use Rattle.cbor4ii_items.specs.{Initial.initial, InputError.{InputError, input_error_of, is_read}}
 use Rattle.cbor4ii_items.specs.InputError.{is_depth_overflow}
 use Rattle.cbor4ii_tree.specs.{Basis.Cost.Budget, Calls.Rejections.Rejection}
-use Rattle.cbor4ii_tree.specs.{Inner.Does.{Accepting, Does}}
-use Rattle.cbor4ii_tree.specs.{Inner.BytesAhead.{Offers, FirstByteIs}, Inner.Skipping.start_of}
-use Rattle.cbor4ii_tree.specs.Inner.Skipping.{RejectsSkippingUnder, HeadLeads, TakesFirst}
+use Rattle.cbor4ii_tree.specs.Inner.{BytesAhead.{Offers, FirstByteIs}, Does.{Accepting, Does}}
+use Rattle.cbor4ii_tree.specs.Inner.Skipping.{start_of, RejectsSkippingUnder, HeadLeads, TakesFirst}
 use Rattle.cbor4ii_tree.specs.Inner.Skipping.{rejection_of, SaysError}
-use Rattle.cbor4ii_tree.specs.declared.skip.initial.{Start.Start, After.After}
+use Rattle.cbor4ii_tree.specs.declared.skip.initial.{After.After, Start.Start}
 use Rattle.cbor4ii_tree.proofs.skip_calls.Doing.{Reached, reached_by, reached_then, reached_as}
 use Rattle.cbor4ii_tree.proofs.skip_calls.Doing.{does_ok, does_err, does_reject}
-use Rattle.cbor4ii_tree.proofs.skip_calls.{Leading.begins_none, Prefixes.{byte_taken, byte_stays}}
+use Rattle.cbor4ii_tree.proofs.skip_calls.{Leaves.begins_none, Prefixes.{byte_taken, byte_stays}}
 use Rattle.cbor4ii_tree.specs.declared.skip.initial.Start.TheVariants as start
 
 abbrev pub First : ℕ → List ℕ → List ℕ → Type 0
@@ -87,6 +86,7 @@ module _ {b : ℕ} {a m c : View} (o : Offers 1 (FirstByteIs b) a m) (s : Start)
       let z = says_some (rejection_of s b) e says in
       does_reject Seen (HeadLeads inner) (RejectsSkippingUnder inner) z.0 z.2 z.3 z.4
       (λ xs ys h. subst
-      (λ x. RejectsSkippingUnder inner x z.0 ys) (sym h.1) (begins_none inner b z.0 h.0 ys (subst
+      (λ x. RejectsSkippingUnder inner x z.0 ys) (sym h.1) (begins_none inner b z.0 h.0 ys _ refl
+      (subst
       (λ t. rejection_of t b ≡ Some z.0) is z.1) (subst (λ t. TakesFirst t → ys ≡ h.0) is h.2)
       (subst (λ t. (TakesFirst t → ⊥) → ys ≡ b ∷ h.0) is h.3))) (seen left)

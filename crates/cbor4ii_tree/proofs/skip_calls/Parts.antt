@@ -1,7 +1,7 @@
 -- Items that are skipped one after another.
 use Rattle.std.proofs.Common.{◌≡◌, ◌≢◌, ℕ, ◌+◌, ◌<◌, List, [], ◌∷◌, ◌++◌, true, false, refl, sym}
 use Rattle.std.proofs.Common.{ap, ap₂, ◌∙◌, take, drop, arith, subst, ◌≤◌, append-nil, suc, ◌*◌}
-use Rattle.std.proofs.Common.{◌/◌, ◌%◌, Bool, cond, not, inl, inr, append_assoc}
+use Rattle.std.proofs.Common.{◌/◌, ◌%◌, Bool, cond, not, inl, inr, append_assoc, rules}
 use Rattle.cbor4ii_items.specs.{Head.break, Strings.ReadsBreak}
 use Rattle.cbor4ii_tree.proofs.parts.Pushed.{join, count-join, each-join, bytes-join, push}
 use Rattle.cbor4ii_tree.proofs.parts.Pushed.{count-push, each-push, bytes-push}
@@ -22,12 +22,7 @@ SkippedEach budget xs ys = (ts : Trees) × Each (Skippable budget) ts × (xs ≡
 
 pub items_join : (n m : ℕ) (budget : Budget) (xs ys zs : List ℕ) → SkipsItems n budget xs ys
     → SkipsItems m budget ys zs → SkipsItems (n + m) budget xs zs
-items_join n m budget xs ys zs h k = (
-  join h.0 k.0,
-  count-join h.0 k.0 ∙ ap₂ ◌+◌ h.1 k.1,
-  each-join (Skippable budget) h.0 k.0 h.2 k.2,
-  h.3 ∙ ap (λ r. bytes_all h.0 ++ r) k.3 ∙ sym (bytes-join h.0 k.0 zs),
-)
+items_join n m budget xs ys zs h k = search (rules, count-join, ◌+◌, each-join, bytes-join)
 
 pub each_join : (m : ℕ) (budget : Budget) (xs ys zs : List ℕ) → SkippedEach budget xs ys
     → SkipsItems m budget ys zs → SkippedEach budget xs zs
@@ -75,14 +70,7 @@ first_stop n budget xs e rest some s =
 pub only_one : (budget : Budget) (xs ys : List ℕ) → SkipsItems 1 budget xs ys
     → SkipsOne budget xs ys
 only_one budget xs ys (no_trees, c, w, is) = absurd (omega (arith, c))
-only_one budget xs ys (tree t no_trees, c, w, is) = (
-  t,
-  record {
-    loose = w.0.0;
-    fits = w.0.1;
-    begins = is ∙ ap (λ r. r ++ ys) (append-nil (bytes t));
-  },
-)
+only_one budget xs ys (tree t no_trees, c, w, is) = search (rules, append-nil)
 only_one budget xs ys (tree t (tree u us), c, w, is) = absurd (omega (arith, c))
 
 -- the first of one is rejected
@@ -134,9 +122,7 @@ odd_pairs W (suc n) (tree k (tree v ts)) c w =
       r.1,
       (w.0, w.1.0, r.2),
       r.3,
-      ap (λ x. bytes k ++ (bytes v ++ x)) r.4 ∙ ap (λ x. bytes k ++ x)
-          (sym (append_assoc (bytes v) (bytes_pairs r.0) (bytes r.1))) ∙ sym (append_assoc (bytes k)
-          (bytes v ++ bytes_pairs r.0) (bytes r.1)) ∙ ap (λ x. x ++ bytes r.1) refl,
+      rw r.4 (simp append_assoc),
     )
 odd_pairs W _ _ c w = absurd (omega (arith, c))
 

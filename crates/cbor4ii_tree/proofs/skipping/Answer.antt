@@ -27,8 +27,8 @@ pub eof_on_prefix : (input : List ℕ) (budget : Budget) (name : List ℕ) (expe
     (rest : List ℕ) → IsBytes input → SkippingRejects input budget (eof name expect) rest →
     (t : Tree) × Loose t × IsBytes (bytes t) × IsProperPrefix input (bytes t)
 eof_on_prefix input budget name expect rest h s =
-    items.eof_on_prefix skipping_laws input budget
-    (eof name expect) rest h tt s
+    let t = items.eof_on_prefix skipping_laws input budget
+    (eof name expect) rest h tt s in (t.0, t.1.0, t.2, t.3)
 
 pub depth_stays : (input more : List ℕ) (budget : Budget) (name rest : List ℕ) (t : Tree)
     (x : List ℕ) → SkippingRejects input budget (depth_overflow name) rest

@@ -1,14 +1,15 @@
 -- Values of the program are in range.
 use Rattle.std.proofs.Common.{◌≡◌, ℕ, ◌+◌, ◌<◌, ◌^◌, List, [], ◌∷◌, ◌++◌, length, take, get_or, sym}
-use Rattle.std.proofs.Common.{ap, ◌∙◌, arith, subst, Vec, Global, String, refl}
+use Rattle.std.proofs.Common.{ap, ◌∙◌, arith, subst, Vec, Global, String, refl, rules}
 use Rattle.std.proofs.{lemmas.List.take_more, lemmas.Str.IsUtf8-string_bytes}
 use Rattle.std.specs.Prelude.{string_bytes}
 use Rattle.cbor4ii_tree.specs.{Basis.Item.{IsItem, AreItems, AreItemPairs}, Basis.View.view}
 use Rattle.cbor4ii_tree.specs.{Basis.View.{items_view, pairs_view}, declared.value.Value.Value}
 use Rattle.cbor4ii_tree.specs.declared.value.Value.{Text, Array, Map, Bytes}
 use Rattle.cbor4ii_tree.specs.Inner.Valuing.{flat_values}
-use Rattle.cbor4ii_tree.proofs.{values.Encoding.view-Array, values.Strings.{view-Text, view-Bytes}}
-use Rattle.cbor4ii_tree.proofs.values.Views.{item_count-items_view, pair_count-pairs_view, view-Map}
+use Rattle.cbor4ii_tree.proofs.values.Encoding.{view-Array, item_count-items_view}
+use Rattle.cbor4ii_tree.proofs.values.Encoding.{pair_count-pairs_view, view-Map}
+use Rattle.cbor4ii_tree.proofs.values.Heads.{view-Text, view-Bytes}
 
 pub AreItems-append : (vs ws : List Value) → AreItems (items_view vs) → AreItems (items_view ws)
     → AreItems (items_view (vs ++ ws))
@@ -33,18 +34,12 @@ pairs_step xs i x lt is h k l =
 
 pub array_in_range : (value : Value) (v : Vec Value Global) (vs : List Value) → value ≡ Array v
     → vs ≡ v.items → length vs < 2 ^ 64 → AreItems (items_view vs) → IsItem (view value)
-array_in_range value v vs e same small h =
-    subst IsItem (sym (ap view e ∙ view-Array v))
-    (subst (λ ws. IsItem (Rattle.cbor4ii_tree.specs.Basis.Item.sequence (items_view ws))) same
-    (omega (arith, item_count-items_view vs), h))
+array_in_range value v vs e same small h = search (rules, view-Array, item_count-items_view)
 
 pub map_in_range : (value : Value) (v : Vec (Value × Value) Global) (vs : List (Value × Value))
     → value ≡ Map v → vs ≡ v.items → length vs < 2 ^ 64 → AreItemPairs (pairs_view vs)
     → IsItem (view value)
-map_in_range value v vs e same small h =
-    subst IsItem (sym (ap view e ∙ view-Map v))
-    (subst (λ ws. IsItem (Rattle.cbor4ii_tree.specs.Basis.Item.mapping (pairs_view ws))) same
-    (omega (arith, pair_count-pairs_view vs), h))
+map_in_range value v vs e same small h = search (rules, view-Map, pair_count-pairs_view)
 
 pub text_in_range : (value : Value) (s : String Global) → value ≡ Text s
     → length (string_bytes s) < 2 ^ 64 → IsItem (view value)
@@ -58,8 +53,7 @@ items_none e = rw e tt
 
 pub items_are : (ws vs part : List Value) → ws ≡ vs ++ part → AreItems (items_view vs)
     → AreItems (items_view part) → AreItems (items_view ws)
-items_are ws vs part e h i = subst (λ x. AreItems (items_view x)) (sym e) (AreItems-append vs part h
-    i)
+items_are ws vs part e h i = rw e (AreItems-append vs part h i)
 
 pairs_are : (ms : List (Value × Value)) → AreItems (items_view (flat_values ms))
     → AreItemPairs (pairs_view ms)

@@ -104,6 +104,18 @@ abbrev pub AsksAfterNext : Bool → Next → (List ℕ → List ℕ → Type 0) 
 AsksAfterNext canonical n at old new =
     (before : View) → ShowsNext (canonical ≡ true) n before old → Asks at before new
 
+-- what a call gives that reads a value, by itself, and together with the look before it
+abbrev pub GivesValue : {E : Type 0} → Bool → (Budget → Accepting Value) → (Budget → Rejection)
+    → View → View → Result Value (DecodeError E) → Type 0
+GivesValue canonical accepts rejects =
+    Gives (Asks (InValue canonical)) InRange (DoesUnder accepts rejects)
+
+abbrev pub GivesNext : {E : Type 0} → Bool → Next → (Budget → Accepting Value)
+    → (Budget → Rejection) → View → View → Result Value (DecodeError E) → Type 0
+GivesNext canonical n accepts rejects =
+    Gives (AsksAfterNext canonical n (InValue canonical)) InRange
+    (DoesAfterNext canonical n accepts rejects)
+
 -- a value was taken, or none and a look has shown it; or there is an error
 abbrev pub TakesLeaf : {E : Type 0} → Bool → View → View → Option TakenOrNext
     → Option (DecodeError E)
@@ -111,10 +123,7 @@ abbrev pub TakesLeaf : {E : Type 0} → Bool → View → View → Option TakenO
 TakesLeaf canonical old new (Some (looked.Begins n)) failure = ShowsNext (canonical ≡ true) n old
     new
 TakesLeaf {E = E} canonical old new (Some (Taken v)) failure =
-    Gives {E = E} (Asks (InValue canonical)) InRange (DoesUnder (ReadsUnder canonical)
-    (RejectsUnder canonical))
-    old new (Ok v)
+    GivesValue {E = E} canonical (ReadsUnder canonical) (RejectsUnder canonical) old new (Ok v)
 TakesLeaf canonical old new None failure =
-    Gives (Asks (InValue canonical)) InRange (DoesUnder (ReadsUnder canonical)
-    (RejectsUnder canonical)) old new
+    GivesValue canonical (ReadsUnder canonical) (RejectsUnder canonical) old new
     (Err (error_left failure))

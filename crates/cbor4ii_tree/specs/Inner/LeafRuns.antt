@@ -123,12 +123,24 @@ abbrev pub RejectsItemsUnder : Bool → ℕ → Budget → Rejection
 RejectsItemsUnder canonical room inner xs e rest =
     (budget : Budget) → step_in budget ≡ Some inner → RejectsItems canonical room budget xs e rest
 
+-- what a run does
+abbrev pub DoesRun : {E : Type 0} → Bool → List Value → List Value → View → View
+    → Result (Unit {0}) (DecodeError E) → Type 0
+DoesRun canonical before after old =
+    Does (PutsItemsUnder canonical before after old.budget) RejectsWhereNone old
+
+-- what a run does, and the value after it, up to so many in all
+abbrev pub DoesTurn : {E : Type 0} → Bool → ℕ → List Value → List Value → View → View
+    → Result (Unit {0}) (DecodeError E) → Type 0
+DoesTurn canonical full before after =
+    DoesUnder (PutsItemsUnder canonical before after)
+    (RejectsItemsUnder canonical (full - length before))
+
 -- values were taken by a run, and after them a look has shown a value
 pub record RunsBefore (E : Type 0) (canonical : Bool) (n : Next) (before after : List Value)
     (old new : View) : Type 0 where
   pub mid : View
-  pub puts : Does {V = Unit {0}} {E = E} (PutsItemsUnder canonical before after old.budget)
-      RejectsWhereNone old mid (Ok tt)
+  pub puts : DoesRun {E = E} canonical before after old mid (Ok tt)
   pub shows : ShowsNext (canonical ≡ true) n mid new
 
 -- values were taken by a run, or it was rejected
@@ -137,10 +149,9 @@ abbrev pub TakesValuesBy : {E : Type 0} → Bool → List Value → List Value �
 TakesValuesBy {E = E} canonical before after old new (Some (Some n)) failure =
     RunsBefore E canonical n before after old new
 TakesValuesBy {E = E} canonical before after old new (Some None) failure =
-    Does {E = E} (PutsItemsUnder canonical before after old.budget) RejectsWhereNone old new (Ok tt)
+    DoesRun {E = E} canonical before after old new (Ok tt)
 TakesValuesBy canonical before after old new None failure =
-    Does {V = Unit {0}} (PutsItemsUnder canonical before after old.budget) RejectsWhereNone old new
-    (Err (error_left failure))
+    DoesRun canonical before after old new (Err (error_left failure))
 
 -- `before` and `after` are the values before and after it. It answers what a look has shown of the
 -- next value, where that is left undecided.

@@ -1,6 +1,6 @@
 -- Answers of the plain programs, taken apart and put together.
 use Rattle.std.proofs.Common.{◌≡◌, ℕ, zero, suc, ◌+◌, ◌-◌, ◌⊎◌, inl, inr, List, Option, Some, None}
-use Rattle.std.proofs.Common.{Ok, Err, Result, refl, ap, arith}
+use Rattle.std.proofs.Common.{Ok, Err, Result, refl, ap, arith, rules}
 use Rattle.cbor4ii_items.specs.{Budget.CostFits, Reading.go_on, Sequences.after_step}
 use Rattle.cbor4ii_tree.specs.{Basis.Cost.{Budget, step_in}, Basis.InputError.InputError}
 use Rattle.cbor4ii_tree.specs.{Calls.Rejections.{Is, RejectsAtStep}, Calls.Parse.{Answer, Parser}}
@@ -46,9 +46,7 @@ err f left e rest h = cc
 pub answer_parts : {A : Type 0} (r : Answer A) (a c : A) (b d : List ℕ) → r ≡ Ok (a, b)
     → r ≡ Ok (c, d)
     → (a ≡ c) × (b ≡ d)
-answer_parts {A} r a c b d p q =
-    let e = same_ok r (a, b) (c, d) p q in
-    (ap (λ (x : A × List ℕ). x.0) e, ap (λ (x : A × List ℕ). x.1) e)
+answer_parts {A} r a c b d p q = search (rules, same_ok)
 
 -- ---- steps
 

@@ -1,4 +1,5 @@
 -- One input is read canonically in one way, since no loose tree begins another.
+use Rattle.std.proofs.Common.{rules}
 use Rattle.std.proofs.Common.{◌≡◌, ℕ, ◌≤◌, List, ◌++◌, length, take, IsTrue, true, sym, ap, ◌∙◌}
 use Rattle.std.proofs.{Common.{subst, arith, length-append}, lemmas.List.length-take-le}
 use Rattle.std.proofs.Math.Seq.{take-append_seam}
@@ -11,16 +12,7 @@ use Rattle.cbor4ii_items.specs.Decoding.{IsLawful}
 
 -- what is read canonically is read as a value
 as_value : (xs : List ℕ) (v : Item) (n c : ℕ) → ReadsCanonicalItem xs v n c → ReadsValue xs v n c
-as_value xs v n c p = record {
-  within = p.within;
-  encodes = record {
-    of_tree = p.encodes.of_tree;
-    plain = p.encodes.canonical.0;
-    bytes_are = p.encodes.bytes_are;
-    value_is = p.encodes.value_is;
-    cost_is = p.encodes.cost_is;
-  };
-}
+as_value xs v n c p = search rules
 
 pub canonical_one : (xs : List ℕ) (v w : Canonical) (n m c d : ℕ) → ReadsCanonical xs v n c
     → ReadsCanonical xs w m d → (n ≡ m) × (c ≡ d) × (view v.0 ≡ view w.0)
@@ -47,9 +39,4 @@ canonical_alone e xs ys v n c p =
     }
 
 pub canonical_lawful : IsLawful canonical_format
-canonical_lawful = record {
-  one = canonical_one;
-  within = canonical_within;
-  positive = canonical_positive;
-  alone = canonical_alone;
-}
+canonical_lawful = search (rules, canonical_one, canonical_within, canonical_positive, canonical_alone)

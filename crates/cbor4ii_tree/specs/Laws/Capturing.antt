@@ -1,5 +1,5 @@
 -- One input is captured in one way.
-use Rattle.std.proofs.Common.{◌≡◌, ℕ, ◌≤◌, List, ◌++◌, length, take, refl, sym, ap, ◌∙◌}
+use Rattle.std.proofs.Common.{◌≡◌, ℕ, ◌≤◌, List, ◌++◌, length, take, refl, sym, ap, ◌∙◌, rules}
 use Rattle.std.proofs.{lemmas.List.length-take-le, Math.Seq.take-append_seam}
 use Rattle.cbor4ii_tree.specs.Laws.Ignoring.{tree_one, tree_within, tree_positive, tree_alone}
 use Rattle.cbor4ii_tree.specs.{Calls.Raw.{ReadsRaw, raw_format}, Calls.BoxedRaw.boxed_content}
@@ -27,19 +27,10 @@ raw_positive content xs v n c p = tree_positive xs n c p.0
 pub raw_alone : {V : Type 0} (content : V → List ℕ) (xs ys : List ℕ) (v : V) (n c : ℕ)
     → ReadsRaw content xs v n c → ReadsRaw content (take n xs ++ ys) v n c
 raw_alone content xs ys v n c p =
-    let t = take n xs in
-    let size : length t ≡ n = length-take-le n xs (tree_within xs n c p.0) in (
-      tree_alone xs ys n c p.0,
-      p.1 ∙ (sym (take-append_seam t ys) ∙ ap (λ j. take j (t ++ ys)) size),
-    )
+    search (rules, length-take-le, tree_within, tree_alone, take-append_seam)
 
 pub raw_lawful : {V : Type 0} (content : V → List ℕ) → IsLawful (raw_format content)
-raw_lawful content = record {
-  one = raw_one content;
-  within = raw_within content;
-  positive = λ some. raw_positive content;
-  alone = λ closed. raw_alone content;
-}
+raw_lawful content = search (rules, raw_one, raw_within, raw_positive, raw_alone)
 
 pub boxed_raw_lawful : IsLawful boxed_raw_format
 boxed_raw_lawful = lawful_in_memory (raw_format boxed_content) (raw_lawful boxed_content)

@@ -1,19 +1,17 @@
 -- One input is skipped in one way.
-use Rattle.std.proofs.Common.{◌≡◌, ℕ, suc, None, Ok, subst, ◌≤◌, List, ◌++◌, length, take, drop}
-use Rattle.std.proofs.Common.{IsTrue, true, refl, sym, ap, ◌∙◌, arith, length-append}
+use Rattle.std.proofs.Common.{◌≡◌, ℕ, None, Ok, subst, ◌≤◌, List, ◌++◌, length, take, drop}
+use Rattle.std.proofs.Common.{IsTrue, true, refl, sym, ap, ◌∙◌, arith, length-append, rules}
 use Rattle.std.proofs.Math.Seq.{take-append_seam, drop-append_seam}
 use Rattle.cbor4ii_items.specs.Decoding.{IsLawful, leaf_format}
-use Rattle.cbor4ii_tree.specs.{Basis.Cost.skip_cost, declared.ignored.IgnoredAny.IgnoredAny}
+use Rattle.cbor4ii_tree.specs.{declared.ignored.IgnoredAny.IgnoredAny}
 use Rattle.cbor4ii_tree.specs.{Calls.Ignored.{ReadsTree, ReadsIgnored}, Laws.Binds.answer_parts}
-use Rattle.cbor4ii_tree.specs.Calls.SkippingRejects.{SkippingRejects, skipping_profile}
+use Rattle.cbor4ii_tree.specs.Calls.SkippingRejects.{SkippingRejects}
 use Rattle.cbor4ii_tree.specs.{Laws.Initials.length-bytes-pos, Laws.ItemAgain.item_again}
 use Rattle.cbor4ii_tree.specs.{Laws.Profiles.skipping_lawful, Calls.Skip.skip, Basis.Tree.Tree}
 use Rattle.cbor4ii_tree.specs.Basis.Tree.{bytes, Loose}
 
 encoding_again : (t : Tree) (x : List ℕ) → Loose t → skip None (bytes t ++ x) ≡ Ok (t, x)
-encoding_again t x l =
-    item_again skipping_profile skipping_lawful (suc (length (bytes t ++ x))) None t x (l, tt)
-    (omega arith)
+encoding_again t x l = search (rules, item_again, skipping_lawful)
 
 pub one_encoding : (t u : Tree) (x y : List ℕ) → Loose t → Loose u → bytes t ++ x ≡ bytes u ++ y
     → (t ≡ u) × (x ≡ y)
@@ -24,12 +22,7 @@ one_encoding t u x y l m e =
 -- ---- a tree at the beginning
 
 pub tree_one : (xs : List ℕ) (n m c d : ℕ) → ReadsTree xs n c → ReadsTree xs m d → (n ≡ m) × (c ≡ d)
-tree_one xs n m c d p q =
-    let same = one_encoding p.of_tree q.of_tree (drop n xs)
-    (drop m xs) p.loose q.loose (sym p.begins ∙ q.begins) in (
-      p.size ∙ ap (λ t. length (bytes t)) same.0 ∙ sym q.size,
-      p.cost ∙ ap skip_cost same.0 ∙ sym q.cost,
-    )
+tree_one xs n m c d p q = search (rules, one_encoding)
 
 pub tree_within : (xs : List ℕ) (n c : ℕ) → ReadsTree xs n c → n ≤ length xs
 tree_within xs n c p =
@@ -40,9 +33,7 @@ tree_positive xs n c p = omega (arith, p.size, length-bytes-pos p.of_tree)
 
 -- its bytes are the first n
 pub tree_prefix : (xs : List ℕ) (n c : ℕ) (p : ReadsTree xs n c) → take n xs ≡ bytes p.of_tree
-tree_prefix xs n c p =
-    let t = bytes p.of_tree in
-    ap (take n) p.begins ∙ ap (λ j. take j (t ++ drop n xs)) p.size ∙ take-append_seam t (drop n xs)
+tree_prefix xs n c p = search (rules, take-append_seam)
 
 pub tree_alone : (xs ys : List ℕ) (n c : ℕ) → ReadsTree xs n c → ReadsTree (take n xs ++ ys) n c
 tree_alone xs ys n c p =
@@ -77,9 +68,4 @@ pub ignored_alone : IsTrue true → (xs ys : List ℕ) (v : IgnoredAny) (n c : �
 ignored_alone e xs ys v n c p = tree_alone xs ys n c p
 
 pub ignored_lawful : IsLawful (leaf_format ReadsIgnored SkippingRejects)
-ignored_lawful = record {
-  one = ignored_one;
-  within = ignored_within;
-  positive = ignored_positive;
-  alone = ignored_alone;
-}
+ignored_lawful = search (rules, ignored_one, ignored_within, ignored_positive, ignored_alone)

@@ -1,28 +1,27 @@
 -- A tree that is taken whole is given back, whatever follows it.
-use Rattle.std.proofs.Common.{◌≡◌, ℕ, zero, suc, ◌+◌, ◌*◌, ◌<◌, List, [], ◌∷◌, ◌++◌, length, Ok}
-use Rattle.std.proofs.Common.{refl, ap, ◌∙◌, arith, append_assoc, length-append, Bool, true, false}
-use Rattle.std.proofs.lemmas.Str.{is_utf8-from_IsUtf8}
+use Rattle.std.proofs.Common.{rules, ◌≡◌, ℕ, zero, suc, ◌+◌, ◌*◌, ◌<◌, List, [], ◌∷◌, ◌++◌, length}
+use Rattle.std.proofs.Common.{Ok, refl, ap, ◌∙◌, arith, append_assoc, length-append, Bool, true}
+use Rattle.std.proofs.{Common.false, lemmas.Str.is_utf8-from_IsUtf8}
 use Rattle.std.specs.Int.{bytes_high_first}
 use Rattle.cbor4ii_items.specs.Head.{Width, HeadFits, byte_count, break, additional}
 use Rattle.cbor4ii_items.specs.Initial.{sign_major, Kind, byte_string, text_string, kind_major}
 use Rattle.cbor4ii_items.specs.Initial.{precision_bytes, Initial, starts_string, initial}
 use Rattle.cbor4ii_items.specs.Sequences.{after_step}
-use Rattle.cbor4ii_tree.specs.{Basis.Cost.Budget, Basis.InputError.tag_name}
-use Rattle.cbor4ii_tree.specs.Calls.ItemAt.{tested_string, string_tree_at, chunk_tree_by}
-use Rattle.cbor4ii_tree.specs.Calls.ItemAt.{chunk_tree_at, item_by, item_from, item_within}
-use Rattle.cbor4ii_tree.specs.{Calls.ItemRejects.{Profile, ChunkOf}, Laws.Binds.step_left}
+use Rattle.cbor4ii_tree.specs.Basis.{Cost.Budget, InputError.tag_name, Tree.{Tree, int, string}}
+use Rattle.cbor4ii_tree.specs.Basis.Tree.{chunked, array, array_indefinite, map_of, map_indefinite}
+use Rattle.cbor4ii_tree.specs.Basis.Tree.{tagged, simple, bits, count, pair_count, bytes, bytes_all}
+use Rattle.cbor4ii_tree.specs.{Basis.Tree.bytes_pairs, Calls.ItemAt.{tested_string, string_tree_at}}
+use Rattle.cbor4ii_tree.specs.Calls.ItemAt.{chunk_tree_by, chunk_tree_at, item_by, item_from}
+use Rattle.cbor4ii_tree.specs.Calls.{ItemAt.item_within, ItemRejects.{Profile, ChunkOf}}
+use Rattle.cbor4ii_tree.specs.{Calls.Parse.Parser, Laws.Binds.step_left}
 use Rattle.cbor4ii_tree.specs.Laws.HeadsAgain.{prefix_again, argument_again, number_again}
 use Rattle.cbor4ii_tree.specs.Laws.Initials.{begins, initial_int, initial_string, initial_array}
 use Rattle.cbor4ii_tree.specs.Laws.Initials.{initial_map, initial_tag, initial_chunks}
 use Rattle.cbor4ii_tree.specs.Laws.Initials.{initial_simple, initial_bits, initial_indefinite_array}
-use Rattle.cbor4ii_tree.specs.{Laws.Initials.initial_indefinite_map, Laws.PartsAgain.Again}
+use Rattle.cbor4ii_tree.specs.Laws.{Initials.initial_indefinite_map, PartsAgain.Again}
 use Rattle.cbor4ii_tree.specs.Laws.PartsAgain.{StartNoBreak, trees_again, pairs_again}
 use Rattle.cbor4ii_tree.specs.Laws.PartsAgain.{indefinite_trees_again, indefinite_pairs_again}
 use Rattle.cbor4ii_tree.specs.Laws.Profiles.{Tested, HasWholeParts, IsLawfulProfile}
-use Rattle.cbor4ii_tree.specs.{Calls.Parse.Parser, Basis.Tree.{Tree, int, string, chunked, array}}
-use Rattle.cbor4ii_tree.specs.Basis.Tree.{array_indefinite, map_of, map_indefinite, tagged, simple}
-use Rattle.cbor4ii_tree.specs.Basis.Tree.{bits, count, pair_count, bytes, bytes_all, bytes_pairs}
-use Rattle.cbor4ii_tree.specs.Basis.Tree.{joined_chunks}
 
 -- after the initial byte, and after the head
 pub following_head : (xs ys x : List ℕ) (n : ℕ) → suc (length ((xs ++ ys) ++ x)) < suc n
@@ -45,9 +44,7 @@ string_again : (name : List ℕ) (k : Kind) (w : Width) (content x : List ℕ)
     → HeadFits w (length content) → string_tree_at name w (32 * kind_major k + additional w
     (length content)) (bytes_high_first (byte_count w) (length content) ++ (content ++ x))
     ≡ Ok (content, x)
-string_again name k w content x l =
-    rw (argument_again _ name (kind_major k) (length content) w (content ++ x) l)
-    (prefix_again name (length content) content x refl)
+string_again name k w content x l = search (rules, argument_again, prefix_again)
 
 chunk_by_again : (j k : Kind) (w : Width) (content x : List ℕ) → j ≡ k
     → HeadFits w (length content) → chunk_tree_by k (starts_string j w) (32 * kind_major j
@@ -64,11 +61,7 @@ pub chunk_again : (tests : Bool) (k : Kind) (b : Budget) (item : Parser Tree)
     → Again (chunk_tree_at tests k b item) (ChunkOf tests k b Whole) bound
 chunk_again false k b item Whole bound a t x h lt = a t x h lt
 chunk_again true k b item Whole bound a (string j w content) x h lt =
-    rw (
-      step_left b h.2,
-      initial_string j (length content) w h.0,
-      append_assoc (bytes_high_first (byte_count w) (length content)) content x,
-    ) (chunk_by_again j k w content x h.1 h.0)
+    search (rules, step_left, initial_string, append_assoc, chunk_by_again)
 chunk_again true k b item Whole bound a _ x h lt = absurd h.1
 
 pub chunks_start : (tests : Bool) (k : Kind) (b : Budget) (Whole : Tree → Type 0)
@@ -94,22 +87,9 @@ module _ (p : Profile) (l : IsLawfulProfile p) where
       by_initial item b _ _ _ (initial_int s m w h)
       ∙ rw (argument_again p.asks (p.of_int s) (sign_major s) m w x h) refl
   from_again item n b a (string k w content) x h lt =
-      by_initial item b _ _ _ (initial_string k (length content) w h.0)
-      ∙ rw (
-        append_assoc (bytes_high_first (byte_count w) (length content)) content x,
-        string_again (p.of_string k) k w content x h.0,
-      ) (tested_again p.tests k content (string k w content) x h.1)
+      search (rules, by_initial, initial_string, append_assoc, string_again, tested_again)
   from_again item n b a (chunked k ts) x h lt =
-      by_initial item b _ _ _ (initial_chunks k)
-      ∙ rw (
-        append_assoc (bytes_all ts) (break ∷ []) x,
-        indefinite_trees_again (chunk_tree_at p.tests k b (item b))
-            (ChunkOf p.tests k b (p.Whole b)) n
-            (chunk_again p.tests k b (item b) (p.Whole b) n (a b))
-            (chunks_start p.tests k b (p.Whole b) (starts b)) ts
-            (suc (length (bytes_all ts ++ break ∷ x))) x h.0 (omega arith)
-            (after_indefinite (bytes_all ts) x n lt),
-      ) (tested_again p.tests k (joined_chunks ts) (chunked k ts) x h.1)
+      search (rules, by_initial, initial_chunks, append_assoc, indefinite_trees_again, chunk_again, chunks_start, starts, after_indefinite, tested_again)
   from_again item n b a (array w ts) x h lt =
       let c : Budget = h.1.0 in
       by_initial item b _ _ _ (initial_array (count ts) w h.0)
@@ -121,15 +101,7 @@ module _ (p : Profile) (l : IsLawfulProfile p) where
             (following_head (bytes_high_first (byte_count w) (count ts)) (bytes_all ts) x n lt),
       ) refl
   from_again item n b a (array_indefinite ts) x h lt =
-      let c : Budget = h.0 in
-      by_initial item b _ _ _ initial_indefinite_array
-      ∙ rw (
-        h.1,
-        append_assoc (bytes_all ts) (break ∷ []) x,
-        indefinite_trees_again (item c) (p.Whole c) n (a c) (starts c) ts
-            (suc (length (bytes_all ts ++ break ∷ x))) x h.2 (omega arith)
-            (after_indefinite (bytes_all ts) x n lt),
-      ) refl
+      search (rules, by_initial, initial_indefinite_array, append_assoc, indefinite_trees_again, starts, after_indefinite)
   from_again item n b a (map_of w ps) x h lt =
       let c : Budget = h.1.0 in
       let top : List ℕ = bytes_high_first (byte_count w) (pair_count ps) in
@@ -142,15 +114,7 @@ module _ (p : Profile) (l : IsLawfulProfile p) where
             (following_head top (bytes_pairs ps) x n lt),
       ) refl
   from_again item n b a (map_indefinite ps) x h lt =
-      let c : Budget = h.0 in
-      by_initial item b _ _ _ initial_indefinite_map
-      ∙ rw (
-        h.1,
-        append_assoc (bytes_pairs ps) (break ∷ []) x,
-        indefinite_pairs_again (item c) (p.Whole c) n (a c) (starts c) ps
-            (suc (length (bytes_pairs ps ++ break ∷ x))) x h.2 (omega arith)
-            (after_indefinite (bytes_pairs ps) x n lt),
-      ) refl
+      search (rules, by_initial, initial_indefinite_map, append_assoc, indefinite_pairs_again, starts, after_indefinite)
   from_again item n b a (tagged m w t) x h lt =
       by_initial item b _ _ _ (initial_tag m w h.0)
       ∙ rw (

@@ -37,16 +37,6 @@ pub indefinite_pair_turn : (item : Parser Tree) (n : ℕ) (bs x : List ℕ) → 
 unfolding indefinite_pairs_at
 indefinite_pair_turn item n bs x h = rw (h.2, ne_eqb h.0 255 (omega arith)) refl
 
-indefinite_end : (item : Parser Tree) (n : ℕ) (x : List ℕ)
-    → indefinite_trees_at item (suc n) (break ∷ x) ≡ Ok (no_trees, x)
-unfolding indefinite_trees_at
-indefinite_end item n x = refl
-
-indefinite_pairs_end : (item : Parser Tree) (n : ℕ) (x : List ℕ)
-    → indefinite_pairs_at item (suc n) (break ∷ x) ≡ Ok (no_pairs, x)
-unfolding indefinite_pairs_at
-indefinite_pairs_end item n x = refl
-
 module _ (item : Parser Tree) (Whole : Tree → Type 0) (bound : ℕ) (a : Again item Whole bound) where
   pub trees_again : (ts : Trees) (x : List ℕ) → Each Whole ts → length (bytes_all ts ++ x) < bound
       → trees_at item (count ts) (bytes_all ts ++ x) ≡ Ok (ts, x)
@@ -85,8 +75,9 @@ module _ (item : Parser Tree) (Whole : Tree → Type 0) (bound : ℕ) (a : Again
         → Each Whole ts → length (bytes_all ts ++ break ∷ x) ≤ n
         → length (bytes_all ts ++ break ∷ x) < bound
         → indefinite_trees_at item n (bytes_all ts ++ break ∷ x) ≡ Ok (ts, x)
+    unfolding indefinite_trees_at
     indefinite_trees_again no_trees zero x w more lt = absurd (omega arith)
-    indefinite_trees_again no_trees (suc n) x w more lt = indefinite_end item n x
+    indefinite_trees_again no_trees (suc n) x w more lt = refl
     indefinite_trees_again (tree t ts) zero x w more lt =
         absurd (omega (arith, length-append (bytes t ++ bytes_all ts) (break ∷ x)))
     indefinite_trees_again (tree t ts) (suc n) x w more lt =
@@ -106,9 +97,9 @@ module _ (item : Parser Tree) (Whole : Tree → Type 0) (bound : ℕ) (a : Again
         → EachPair Whole ps → length (bytes_pairs ps ++ break ∷ x) ≤ n
         → length (bytes_pairs ps ++ break ∷ x) < bound
         → indefinite_pairs_at item n (bytes_pairs ps ++ break ∷ x) ≡ Ok (ps, x)
+    unfolding indefinite_pairs_at
     indefinite_pairs_again no_pairs zero x w more lt = absurd (omega arith)
-    indefinite_pairs_again no_pairs (suc n) x w more lt =
-        indefinite_pairs_end item n x
+    indefinite_pairs_again no_pairs (suc n) x w more lt = refl
     indefinite_pairs_again (pair k v ps) zero x w more lt =
         absurd (omega (arith, length-append (bytes k ++ (bytes v ++ bytes_pairs ps)) (break ∷ x)))
     indefinite_pairs_again (pair k v ps) (suc n) x w more lt =

@@ -1,7 +1,7 @@
 -- What reading a value and skipping an item have in common: a tree is taken whole where its parts
 -- are, under what its step leaves.
 use Rattle.std.proofs.Common.{◌≡◌, ℕ, ◌+◌, ◌^◌, ◌<◌, List, length, Some, Bool, true, false, None}
-use Rattle.std.proofs.Common.{refl, subst, arith, ◌≤◌}
+use Rattle.std.proofs.Common.{refl, subst, arith, ◌≤◌, rules}
 use Rattle.cbor4ii_items.specs.{Budget.CostFits, Head.HeadFits, Initial.{Kind, precision_bytes}}
 use Rattle.cbor4ii_items.specs.{Laws.Answering.fits_zero, Laws.SequenceParts.fits_less}
 use Rattle.cbor4ii_items.specs.Sequences.{after_step}
@@ -126,9 +126,7 @@ chunks_fit k (tree t ts) (Some n) a f = omega (arith, greatest_chunk k (tree t t
 inside : (b : Budget) (n : ℕ) (P : Budget → Type 0) → CostFits (2 + n) b
     → (CostFits n (after_step (after_step b)) → P (after_step (after_step b)))
     → Inside reading_profile (after_step b) P
-inside b n P f k =
-    let two = fits_two n b f in
-    (after_step (after_step b), step_left (after_step b) two.0, k two.1)
+inside b n P f k = search (rules, fits_two, step_left)
 
 reading_opens : (b : Budget) (t : Tree) → Readable b t → HasWholeParts reading_profile
     (after_step b) t
@@ -151,9 +149,7 @@ reading_opens b (bits f n) h = h.0.0
 -- a cost that fits two steps later
 up_two : (b c d : Budget) (n : ℕ) → step_in b ≡ Some c → step_in c ≡ Some d → CostFits n d
     → CostFits (2 + n) b
-up_two b c d n is also f =
-    fits_less (2 + n) (1 + (1 + n)) b (omega arith)
-    (step_up b c (1 + n) is (step_up c d n also f))
+up_two b c d n is also f = search (rules, fits_less, step_up)
 
 chunks_up : (k : Kind) (ts : Trees) (b c : Budget) → step_in b ≡ Some c
     → Each (ReadableChunk k c) ts → CostFits (chunks_cost ts) b
@@ -166,9 +162,7 @@ reading_closes : (b c : Budget) (t : Tree) → step_in b ≡ Some c → HasWhole
     → Readable b t
 reading_closes b c (int s n w) is h = ((h, tt), step_up b c 0 is (fits_zero c))
 reading_closes b c (string k w content) is h = (h, step_up b c 0 is (fits_zero c))
-reading_closes b c (chunked k ts) is h =
-    let all = all_chunks k ts c h.0 in
-    ((all.0.0, (all.0.1, h.1)), chunks_up k ts b c is h.0)
+reading_closes b c (chunked k ts) is h = search (rules, all_chunks, chunks_up)
 reading_closes b c (array w ts) is h =
     let all = all_readable ts h.1.0 h.1.2 in
     (((h.0, all.0.0), all.0.1), up_two b c h.1.0 _ is h.1.1 all.1)

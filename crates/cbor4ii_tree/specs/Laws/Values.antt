@@ -1,6 +1,6 @@
 -- One input is read in one way, since no loose tree begins another.
 use Rattle.std.proofs.Common.{◌≡◌, ℕ, ◌≤◌, List, ◌++◌, length, take, drop, IsTrue, true, sym, ap}
-use Rattle.std.proofs.Common.{◌∙◌, subst, arith, length-append, take-append-drop}
+use Rattle.std.proofs.Common.{◌∙◌, subst, arith, length-append, take-append-drop, rules}
 use Rattle.std.proofs.{lemmas.List.length-take-le, Math.Seq.take-append_seam}
 use Rattle.cbor4ii_tree.specs.{declared.value.Value.Value, Basis.Tree.bytes, Basis.Item.Item}
 use Rattle.cbor4ii_tree.specs.{Basis.Meaning.value, Basis.Cost.cost, Basis.Encodings.Encodes}
@@ -50,10 +50,4 @@ value_alone e xs ys v n c p =
     }
 
 pub value_lawful : IsLawful value_format
-value_lawful =
-    record {
-      one = value_one;
-      within = value_within;
-      positive = value_positive;
-      alone = value_alone;
-    }
+value_lawful = search (rules, value_one, value_within, value_positive, value_alone)

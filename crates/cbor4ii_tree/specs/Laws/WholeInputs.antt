@@ -1,11 +1,11 @@
 -- Inputs that are read as one item, in the words of encodings.
-use Rattle.std.proofs.Common.{◌≡◌, ℕ, ◌≤◌, List, [], take, length, Some, sym, subst, ◌∙◌, arith}
+use Rattle.std.proofs.Common.{rules, ◌≡◌, ℕ, ◌≤◌, List, [], take, length, Some, arith}
 use Rattle.std.proofs.lemmas.List.{take_all, append-nil}
 use Rattle.std.specs.Prelude.{◌↔◌}
 use Rattle.cbor4ii_rw.specs.Input.{limit}
 use Rattle.cbor4ii_items.specs.Whole.{IsWhole}
-use Rattle.cbor4ii_tree.specs.Basis.Encodings.{Encodes, DecodesTo}
-use Rattle.cbor4ii_tree.specs.Calls.CanonicalShape.{EncodesCanonically, DecodesCanonically}
+use Rattle.cbor4ii_tree.specs.Basis.Encodings.{DecodesTo}
+use Rattle.cbor4ii_tree.specs.Calls.CanonicalShape.{DecodesCanonically}
 use Rattle.cbor4ii_tree.specs.{Calls.Promises.value_format, Calls.Canonically.canonical_format}
 use Rattle.cbor4ii_tree.specs.{Basis.View.view, declared.value.Value.Value}
 use Rattle.cbor4ii_tree.specs.declared.decode_canonical.Canonical.{Canonical}
@@ -19,42 +19,9 @@ all xs = take_all (length xs) xs (at_most (length xs))
 -- the whole input is an encoding of the value
 pub value_is_whole : (xs : List ℕ) (v : Value) → IsWhole value_format.reads xs v
     ↔ DecodesTo xs (Some limit) (view v) []
-value_is_whole xs v = (
-  λ w. record {
-    encoding = take (length xs) xs;
-    steps = w.0;
-    encodes = w.1.encodes;
-    fits = w.2;
-    begins = sym (append-nil (take (length xs) xs) ∙ all xs);
-  },
-  λ d. let is : d.encoding ≡ xs = sym (d.begins ∙ append-nil d.encoding) in (
-    d.steps,
-    record {
-      within = at_most (length xs);
-      encodes = subst (λ ys. Encodes ys (view v) d.steps) (is ∙ sym (all xs)) d.encodes;
-    },
-    d.fits,
-  ),
-)
+value_is_whole xs v = search (rules, append-nil, all, at_most)
 
 -- the whole input is the canonical encoding of the value
 pub canonical_is_whole : (xs : List ℕ) (v : Canonical) → IsWhole canonical_format.reads xs v
     ↔ DecodesCanonically xs (Some limit) (view v.0) []
-canonical_is_whole xs v = (
-  λ w. record {
-    encoding = take (length xs) xs;
-    steps = w.0;
-    encodes = w.1.encodes;
-    fits = w.2;
-    begins = sym (append-nil (take (length xs) xs) ∙ all xs);
-  },
-  λ d. let is : d.encoding ≡ xs = sym (d.begins ∙ append-nil d.encoding) in (
-    d.steps,
-    record {
-      within = at_most (length xs);
-      encodes = subst (λ ys. EncodesCanonically ys (view v.0) d.steps) (is ∙ sym (all xs))
-          d.encodes;
-    },
-    d.fits,
-  ),
-)
+canonical_is_whole xs v = search (rules, append-nil, all, at_most)

@@ -21,8 +21,8 @@ pub trait Typed: Sized {
         false
     }
 
-    /// Whether a value that `shown_leaf` answers may take a step, as one that may be absent does. An
-    /// option of such a type takes two, and a vector reads it by itself.
+    /// Whether a value that `shown_leaf` answers may take a step, as one does that may be absent.
+    /// An option of such a type takes two, and a vector reads it by itself.
     #[inline(always)]
     fn leaf_takes_step() -> bool {
         false

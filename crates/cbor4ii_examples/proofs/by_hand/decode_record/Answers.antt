@@ -1,4 +1,4 @@
-use Rattle.std.proofs.Common.{arith, inl, inr, refl, sym, ◌∙◌}
+use Rattle.std.proofs.Common.{arith, inl, inr, sym, ◌∙◌, rules}
 use Rattle.std.proofs.lemmas.Result.{err_from_is_err_and}
 use Rattle.cbor4ii_items.specs.Laws.Steps.{moves_then, moves_err, kept_then}
 use Rattle.cbor4ii.specs.Laws.Accessors.{kept_ok}
@@ -6,17 +6,14 @@ use Rattle.cbor4ii_examples.proofs.by_hand.decode_record.Goals.{in-id+in_ok-deco
 use Rattle.cbor4ii_examples.proofs.by_hand.decode_record.Goals.{in-name+in_ok-decode-in-name}
 use Rattle.cbor4ii_examples.proofs.by_hand.decode_record.Goals.{in_default-2-via-in-Some+in_default}
 use Rattle.cbor4ii_examples.proofs.by_hand.decode_record.Goals.{in_default-2-via-in_default}
-use Rattle.cbor4ii_examples.proofs.Records.{nothing_seen, number_under, name_under, one_more}
+use Rattle.cbor4ii_examples.proofs.Records.{number_under, name_under, one_more}
 use Rattle.cbor4ii_examples.proofs.Records.{whole_map, none_by_key, none_by_length, not_counted}
 use Rattle.cbor4ii_examples.proofs.Records.{some_record, none_by_part}
 use Rattle.cbor4ii_examples.proofs.by_hand.decode_record.Goals as goal
 
 pub returns-in_err-is_break-clause-moves : goal.returns-in_err-is_break-clause-moves
 returns-in_err-is_break-clause-moves g c =
-    let p = err_from_is_err_and c.from_residual-in_err-is_break.result
-    c.from_residual-in_err-is_break.ensures.1 in
-    rw (p.1, p.2)
-    (moves_then c.loop-name.invariant.kept (moves_err c.in_err-is_break.ensures.decodes.moves))
+    search (rules, err_from_is_err_and, moves_then, moves_err)
 
 pub returns-in_err-decode-clause-moves : goal.returns-in_err-decode-clause-moves
 returns-in_err-decode-clause-moves g c =
@@ -48,11 +45,7 @@ returns-in_default-clause-moves g c =
     c.in_ok-decode.ensures.moves.by)
 
 pub loop-name-init : goal.loop-name-init
-loop-name-init g c = record {
-  kept = c.in_ok-len.ensures.moves.by;
-  seen = nothing_seen _;
-  within = c.in_ok-len.ensures.progress refl;
-}
+loop-name-init g c = search rules
 
 pub loop-name-preserved : goal.loop-name-preserved
 loop-name-preserved g c =

@@ -8,10 +8,7 @@ use Rattle.cbor4ii_examples.proofs.enumeration.read_enum.Goals as goal
 
 pub returns-in_err-name-clause-moves : goal.returns-in_err-name-clause-moves
 returns-in_err-name-clause-moves g c =
-    let p = err_from_is_err_and c.from_residual-in_err-name.result
-    c.from_residual-in_err-name.ensures.1 in
-    rw (p.1, p.2) (moves_at (around_variant c.in_ok-variant.ensures.opened
-    (moves_err c.in_err-name.ensures.decodes.moves) c.drop-variant.ensures) (search rules))
+    search (rules, err_from_is_err_and, moves_at, around_variant, moves_err)
 
 pub returns-in_err-unit_variant-in-Unit-clause-moves :
     goal.returns-in_err-unit_variant-in-Unit-clause-moves

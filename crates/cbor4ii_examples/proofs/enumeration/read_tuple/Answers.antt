@@ -1,15 +1,11 @@
-use Rattle.std.proofs.Common.{refl}
+use Rattle.std.proofs.Common.{refl, rules}
 use Rattle.std.proofs.lemmas.Result.{err_from_is_err_and}
 use Rattle.cbor4ii_items.specs.Laws.Steps.{moves_then, moves_err, kept_then}
 use Rattle.cbor4ii.specs.Laws.Accessors.{kept_ok}
 use Rattle.cbor4ii_examples.proofs.enumeration.read_tuple.Goals as goal
 
 pub returns-in_err-flag-clause-moves : goal.returns-in_err-flag-clause-moves
-returns-in_err-flag-clause-moves g c =
-    let p = err_from_is_err_and c.from_residual-in_err-flag.result
-    c.from_residual-in_err-flag.ensures.1 in
-    rw (p.1, p.2) (moves_then c.in_ok-text.ensures.decodes.moves.by
-    (moves_err c.in_err-flag.ensures.decodes.moves))
+returns-in_err-flag-clause-moves g c = search (rules, err_from_is_err_and, moves_then, moves_err)
 
 pub returns-in-Some-Some-clause-moves : goal.returns-in-Some-Some-clause-moves
 returns-in-Some-Some-clause-moves g c =

@@ -1,4 +1,4 @@
-use Rattle.std.proofs.Common.{◌≡◌, ℕ, ◌++◌, subst, arith}
+use Rattle.std.proofs.Common.{◌≡◌, ℕ, ◌++◌, subst, arith, rules}
 use Rattle.std.specs.declared.alloc.Global.{Global}
 use Rattle.std.specs.declared.vec.Vec.{Vec}
 use Rattle.cbor4ii_items.specs.Whole.{IsWhole}
@@ -37,6 +37,4 @@ returns-in-Ok-clause-sealed g c =
     c.new-3.result.items c.in-Ok.bytes.items c.new-3.ensures.items c.in-Ok.ensures.appends)
 
 pub returns-clause-rejects : goal.returns-clause-rejects
-returns-clause-rejects g c =
-    not_enveloped (g.T.Serialize.encoding c.args.payload.now) c.key.result c.deref-2.result.now
-    (plain_raw_content c.in_ok-payload.payload) c.in-Err.error c.in-Err.ensures.custom
+returns-clause-rejects g c = search (rules, not_enveloped)

@@ -1,4 +1,4 @@
-use Rattle.std.proofs.Common.{Ok, Err, Some, None, refl, ◌∙◌}
+use Rattle.std.proofs.Common.{Ok, Err, Some, None, refl, ◌∙◌, rules}
 use borrow.Author.Rules.{of_calls}
 use denote.Param.Members.{was_Called}
 use Rattle.cbor4ii_examples.specs.contracts.event.EventTyped.TheImpl.{ghosts}
@@ -6,12 +6,7 @@ use Rattle.cbor4ii_examples.proofs.LogRows.{answers, at_fault, at_first, at_last
 use Rattle.cbor4ii_examples.proofs.log.replay.Goals as goal
 
 pub loop-event-init : goal.loop-event-init
-loop-event-init g c = record {
-  callable = search of_calls;
-  budget = c.new-reader.ensures.budget;
-  reached = at_first _ ghosts.promise.format c.args.handle _ _ c.new-reader.ensures.known
-      c.new-reader.ensures.taken;
-}
+loop-event-init g c = search (rules, of_calls, at_first)
 
 pub loop-event-preserved : goal.loop-event-preserved
 loop-event-preserved g c =

@@ -1,8 +1,8 @@
-use Rattle.std.proofs.Common.{◌≡◌, ◌∷◌, ◌++◌, [], Ok, Err, Some, None, true, false, inl, inr, refl}
-use Rattle.std.proofs.Common.{arith, ap, ◌∙◌, length}
+use Rattle.std.proofs.Common.{◌≡◌, ◌∷◌, ◌++◌, [], Ok, Err, Some, None, false, inl, inr, refl}
+use Rattle.std.proofs.Common.{arith, ap, ◌∙◌, length, rules}
 use Rattle.cbor4ii_examples.specs.Log.{says_cut}
 use Rattle.cbor4ii_examples.specs.contracts.event.EventTyped.TheImpl.{ghosts}
-use Rattle.cbor4ii_examples.proofs.LogRows.{answers, cut_short, faulty, grow_to, no_room, none_left}
+use Rattle.cbor4ii_examples.proofs.LogRows.{answers, cut_short, faulty, grow_to, none_left}
 use Rattle.cbor4ii_examples.proofs.LogRows.{same_known, stopped}
 use Rattle.cbor4ii_examples.proofs.log.whole_events.Goals as goal
 
@@ -23,15 +23,7 @@ loop-event-preserved c =
     }
 
 pub returns-then-is_err-clause-fault : goal.returns-then-is_err-clause-fault
-returns-then-is_err-clause-fault c =
-    no_room ghosts.promise.format c.args.part.now c.loop-event.reader.bytes.now
-    c.loop-event.events.items c.saturating_sub-taken.result c.loop-event.invariant.row
-    (omega (
-      arith,
-      ap length (same_known _ _ c.remaining.ensures.known),
-      c.saturating_sub-taken.ensures,
-      c.loop-event.invariant.within,
-    ))
+returns-then-is_err-clause-fault c = search rules
 
 pub returns-in-Ok-None-clause-batch : goal.returns-in-Ok-None-clause-batch
 returns-in-Ok-None-clause-batch c = record {
@@ -48,21 +40,7 @@ returns-in-Ok-None-clause-batch c = record {
 }
 
 pub returns-in-Err-clause-batch : goal.returns-in-Err-clause-batch
-returns-in-Err-clause-batch c =
-    let says : says_cut c.in-Err.error ≡ true = cc in
-    record {
-      rest = c.loop-event.reader.bytes.now;
-      row = c.loop-event.invariant.row;
-      taken = omega (
-        arith,
-        ap length (same_known _ _ c.remaining.ensures.known),
-        c.saturating_sub-taken.ensures,
-        c.loop-event.invariant.within,
-      );
-      cut = inr (cut_short ghosts.promise.format c.loop-event.reader.bytes.now refl
-          c.loop-event.invariant.budget refl c.in-Err.error
-          (answers (Err c.in-Err.error) c.next_event-next.ensures.decodes (cc)) says);
-    }
+returns-in-Err-clause-batch c = search (rules, same_known, inr, cut_short, answers)
 
 pub returns-in-Err-2-clause-fault : goal.returns-in-Err-2-clause-fault
 returns-in-Err-2-clause-fault c =

@@ -1,7 +1,6 @@
-use Rattle.std.proofs.Common.{◌∙◌, Err, arith}
+use Rattle.std.proofs.Common.{arith, rules}
 use Rattle.std.proofs.lemmas.Result.{err_from_is_err_and}
 use Rattle.cbor4ii_examples.specs.Told.{untold_as}
-use Rattle.cbor4ii_examples.specs.Shape.{frame_fields}
 use Rattle.cbor4ii_examples.proofs.Shapes.{not_one, no_pair, frames-next}
 use Rattle.cbor4ii_examples.proofs.shape.+shapes.Goals as goal
 
@@ -18,13 +17,7 @@ pair_in-returns-in-len3-up t c =
     no_pair c.args.items.now (λ e. omega (arith, c.in-len3-up.len_at_least))
 
 pub frame_in-loop-pair-preserved : goal.frame_in-loop-pair-preserved
-frame_in-loop-pair-preserved t c =
-    c.loop-pair.invariant
-    ∙ frames-next _ _ _ _ _ c.loop-pair-test.true c.pair-item.is c.in_ok-frame.ensures
+frame_in-loop-pair-preserved t c = search (rules, frames-next)
 
 pub frame_in-returns-in_err-frame : goal.frame_in-returns-in_err-frame
-frame_in-returns-in_err-frame t c =
-    let p = err_from_is_err_and c.from_residual.result c.from_residual.ensures.1 in
-    rw (p.1, p.2) (untold_as frame_fields frame_fields _ _ _ c.in_err-frame.ensures
-    (λ words told. c.loop-pair.invariant
-    ∙ frames-next _ _ _ _ (Err words) c.loop-pair-test.true c.pair-item.is told))
+frame_in-returns-in_err-frame t c = search (rules, err_from_is_err_and, untold_as, frames-next)

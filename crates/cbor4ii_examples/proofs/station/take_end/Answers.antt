@@ -1,4 +1,4 @@
-use Rattle.std.proofs.Common.{refl}
+use Rattle.std.proofs.Common.{refl, rules}
 use Rattle.std.proofs.lemmas.Result.{err_from_is_err_and}
 use Rattle.cbor4ii_items.specs.Laws.Calls.{ok}
 use Rattle.cbor4ii_items.specs.Laws.Running.{kept_alike}
@@ -9,10 +9,7 @@ use Rattle.cbor4ii_examples.proofs.station.take_end.Goals.{then-not-is_indefinit
 use Rattle.cbor4ii_examples.proofs.station.take_end.Goals as goal
 
 pub returns-in_err-is_break : goal.returns-in_err-is_break
-returns-in_err-is_break g c =
-    let p = err_from_is_err_and c.from_residual.result c.from_residual.ensures.1 in
-    rw (p.1, p.2) (end_err c.args.is_indefinite c.if-not-is_indefinite.false
-    c.in_err-is_break.ensures.decodes)
+returns-in_err-is_break g c = search (rules, err_from_is_err_and, end_err)
 
 pub returns-then-not-is_indefinite : goal.returns-then-not-is_indefinite
 returns-then-not-is_indefinite g c =

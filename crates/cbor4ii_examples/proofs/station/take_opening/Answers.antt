@@ -1,4 +1,4 @@
-use Rattle.std.proofs.Common.{refl}
+use Rattle.std.proofs.Common.{refl, rules}
 use Rattle.std.proofs.lemmas.Result.{err_from_is_err_and}
 use Rattle.cbor4ii_examples.proofs.Stations.{definite_opening, indefinite_opening, opening_ok}
 use Rattle.cbor4ii_examples.proofs.Stations.{opening_err}
@@ -6,9 +6,7 @@ use Rattle.cbor4ii_examples.proofs.Stations.{opening_other}
 use Rattle.cbor4ii_examples.proofs.station.take_opening.Goals as goal
 
 pub returns-in_err-len : goal.returns-in_err-len
-returns-in_err-len g c =
-    let p = err_from_is_err_and c.from_residual.result c.from_residual.ensures.1 in
-    rw (p.1, p.2) (opening_err c.in_err-len.ensures)
+returns-in_err-len g c = search (rules, err_from_is_err_and, opening_err)
 
 pub returns-in-None : goal.returns-in-None
 returns-in-None g c =

@@ -1,4 +1,4 @@
-use Rattle.std.proofs.Common.{◌∙◌, Ok, Err, ap}
+use Rattle.std.proofs.Common.{◌∙◌, Ok, Err, ap, rules}
 use Rattle.std.proofs.lemmas.Result.{err_from_is_err_and}
 use Rattle.cbor4ii_examples.specs.Told.{untold_as}
 use Rattle.cbor4ii_examples.specs.Tree.{tree_node, vector_nodes, node_fields}
@@ -6,9 +6,7 @@ use Rattle.cbor4ii_examples.proofs.Trees.{pairs-next, nodes-next, after, after-p
 use Rattle.cbor4ii_examples.proofs.tree.+trees.Goals as goal
 
 pub found_in-loop-pair-preserved : goal.found_in-loop-pair-preserved
-found_in-loop-pair-preserved t c =
-    c.loop-pair.invariant
-    ∙ pairs-next _ _ _ _ _ c.loop-pair-test.true c.pair-item.is c.in_ok-found.ensures
+found_in-loop-pair-preserved t c = search (rules, pairs-next)
 
 pub found_in-returns-in_err-found : goal.found_in-returns-in_err-found
 found_in-returns-in_err-found t c =

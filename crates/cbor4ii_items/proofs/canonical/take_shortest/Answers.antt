@@ -1,5 +1,5 @@
 use Rattle.std.proofs.Common.{refl, ◌∙◌, sym}
-use Rattle.std.proofs.lemmas.Result.{err_from_is_err_and}
+use Rattle.cbor4ii_items.proofs.Passed.{run_passed}
 use Rattle.cbor4ii_items.proofs.Shortest.{runs_opening, runs_head_err, runs_shortest, runs_too_long}
 use Rattle.cbor4ii_items.proofs.canonical.take_shortest.Goals as goal
 
@@ -10,18 +10,11 @@ returns-then-is_indefinite-clause-runs g c =
     (sym c.is_indefinite.ensures ∙ c.if-is_indefinite.true)
     refl refl refl
 
-pub returns-in_err-argument : goal.returns-in_err-argument
-returns-in_err-argument g c =
-    let p = err_from_is_err_and c.from_residual-in_err-argument.result
-    c.from_residual-in_err-argument.ensures.1 in
-    record {
-      runs =
-          rw (p.1, p.2)
-          (runs_head_err c.args.name.now c.args.major c.in_ok-first.first c.in_ok-first.ensures.runs
-          (sym c.is_indefinite.ensures ∙ c.if-is_indefinite.false) c.in_err-argument.ensures.runs);
-      memory = rw (p.1, p.2) c.in_err-argument.ensures.memory;
-      progress = rw p.1 tt;
-    }
+pub returns-in_err-argument-clause-runs : goal.returns-in_err-argument-clause-runs
+returns-in_err-argument-clause-runs g c =
+    run_passed _ c.from_residual-in_err-argument.ensures.1
+    (runs_head_err c.args.name.now c.args.major c.in_ok-first.first c.in_ok-first.ensures.runs
+    (sym c.is_indefinite.ensures ∙ c.if-is_indefinite.false) c.in_err-argument.ensures.runs)
 
 pub returns-then-first-shortest_info-clause-runs : goal.returns-then-first-shortest_info-clause-runs
 returns-then-first-shortest_info-clause-runs g c =
@@ -34,12 +27,3 @@ returns-clause-runs g c =
     runs_shortest c.args.name.now c.args.major c.in_ok-first.first c.in_ok-first.ensures.runs
     (sym c.is_indefinite.ensures ∙ c.if-is_indefinite.false) c.in_ok-argument.ensures.runs
     (c.if-first-shortest_info.false ∙ c.shortest_info.ensures)
-
-pub returns-in_err-first-clause-memory : goal.returns-in_err-first-clause-memory
-returns-in_err-first-clause-memory g c =
-    let p = err_from_is_err_and c.from_residual.result c.from_residual.ensures.1 in
-    rw (p.1, p.2) c.in_err-first.ensures.memory
-
-pub returns-in_err-first-clause-progress : goal.returns-in_err-first-clause-progress
-returns-in_err-first-clause-progress g c =
-    rw (err_from_is_err_and c.from_residual.result c.from_residual.ensures.1).1 tt

@@ -1,16 +1,14 @@
 use Rattle.std.proofs.Common.{◌<◌, ◌^◌, arith}
-use Rattle.std.proofs.lemmas.Result.{err_from_is_err_and}
+use Rattle.cbor4ii_items.proofs.Passed.{run_passed}
 use Rattle.cbor4ii_items.specs.ReadHead.{number_on}
-use Rattle.cbor4ii_items.specs.Laws.Running.{runs_err, runs_then}
+use Rattle.cbor4ii_items.specs.Laws.Running.{runs_then}
 use Rattle.cbor4ii_items.specs.Laws.ReadingHeads.{wider}
 use Rattle.cbor4ii_items.proofs.floats.float_by_bytes.Goals as goal
 
 pub returns-in_err-number-clause-runs : goal.returns-in_err-number-clause-runs
 returns-in_err-number-clause-runs g c =
-    let p = err_from_is_err_and c.from_residual-in_err-number.result
-    c.from_residual-in_err-number.ensures.1 in
-    rw (p.1, p.2) (runs_then (λ b. number_on c.args.name.now c.args.bytes c.args.bytes 0)
-    c.in_ok-marked.ensures.runs c.in_err-number.ensures.runs)
+    run_passed _ c.from_residual-in_err-number.ensures.1 (runs_then (λ b. number_on c.args.name.now
+    c.args.bytes c.args.bytes 0) c.in_ok-marked.ensures.runs c.in_err-number.ensures.runs)
 
 pub overflow_cast-result : goal.overflow_cast-result
 overflow_cast-result g c =
@@ -21,8 +19,3 @@ pub returns-clause-runs : goal.returns-clause-runs
 returns-clause-runs g c =
     runs_then (λ b. number_on c.args.name.now c.args.bytes c.args.bytes 0)
     c.in_ok-marked.ensures.runs c.in_ok-number.ensures.runs
-
-pub returns-in_err-marked-clause-runs : goal.returns-in_err-marked-clause-runs
-returns-in_err-marked-clause-runs g c =
-    let p = err_from_is_err_and c.from_residual.result c.from_residual.ensures.1 in
-    rw (p.1, p.2) (runs_err _ c.in_err-marked.ensures.runs)

@@ -1,3 +1,4 @@
+use Rattle.std.proofs.Common.{rules}
 use Rattle.cbor4ii_items.proofs.WholeHeads.{runs_seen, runs_stayed, progress_stayed}
 use Rattle.cbor4ii_items.proofs.floats.take_longer_float.Goals as goal
 
@@ -10,9 +11,7 @@ returns-in-Ok-Cut-clause-runs g c =
     runs_stayed (rw c.in-Ok-Cut.field-0-is at c.in-Ok-Cut.ensures) c.float_by_bytes.ensures.runs
 
 pub returns-in-Ok-Cut-clause-progress : goal.returns-in-Ok-Cut-clause-progress
-returns-in-Ok-Cut-clause-progress g c =
-    progress_stayed _ c.float_by_bytes.result
-    (rw c.in-Ok-Cut.field-0-is at c.in-Ok-Cut.ensures) c.float_by_bytes.ensures.progress
+returns-in-Ok-Cut-clause-progress g c = search (rules, progress_stayed)
 
 pub returns-in-Ok-Other-clause-runs : goal.returns-in-Ok-Other-clause-runs
 returns-in-Ok-Other-clause-runs g c =
@@ -20,7 +19,4 @@ returns-in-Ok-Other-clause-runs g c =
     c.float_by_bytes-in-Ok-Other.ensures.runs
 
 pub returns-in-Ok-Other-clause-progress : goal.returns-in-Ok-Other-clause-progress
-returns-in-Ok-Other-clause-progress g c =
-    progress_stayed _ c.float_by_bytes-in-Ok-Other.result
-    (rw c.in-Ok-Other.field-0-is at c.in-Ok-Other.ensures)
-    c.float_by_bytes-in-Ok-Other.ensures.progress
+returns-in-Ok-Other-clause-progress g c = search (rules, progress_stayed)

@@ -1,5 +1,5 @@
 use Rattle.std.proofs.Common.{◌+◌, ◌-◌, ◌*◌, ◌<◌, ◌^◌, arith}
-use Rattle.std.proofs.lemmas.Result.{err_from_is_err_and}
+use Rattle.cbor4ii_items.proofs.Passed.{run_passed}
 use Rattle.cbor4ii_items.specs.ReadHead.{number_on}
 use Rattle.cbor4ii_items.specs.Laws.Running.{runs_err, reaches_as, reaches_then, reaches_end}
 use Rattle.cbor4ii_items.specs.Laws.ReadingHeads.{one_more_byte, small_number, number_more}
@@ -11,10 +11,9 @@ loop-i-init g c = record { read = number_start _ _ _; small = omega arith }
 
 pub returns-in_err-byte-clause-runs : goal.returns-in_err-byte-clause-runs
 returns-in_err-byte-clause-runs g c =
-    let p = err_from_is_err_and c.from_residual.result c.from_residual.ensures.1 in
-    rw (p.1, p.2) (reaches_end c.loop-i.invariant.read
-    (rw (number_more c.args.name.now c.args.bytes c.args.bytes c.loop-i.i c.loop-i.value
-    c.loop-i-test.true) (runs_err _ c.in_err-byte.ensures.runs)))
+    run_passed _ c.from_residual.ensures.1 (reaches_end c.loop-i.invariant.read (rw (number_more
+    c.args.name.now c.args.bytes c.args.bytes c.loop-i.i c.loop-i.value c.loop-i-test.true)
+    (runs_err _ c.in_err-byte.ensures.runs)))
 
 pub overflow_mul-value : goal.overflow_mul-value
 overflow_mul-value g c =

@@ -1,5 +1,5 @@
 use Rattle.std.proofs.Common.{true, false, rules}
-use Rattle.std.proofs.lemmas.Result.{err_from_is_err_and}
+use Rattle.cbor4ii_items.proofs.Passed.{decodes_passed}
 use Rattle.cbor4ii_items.proofs.NextByte.{definite_follows, indefinite_follows}
 use Rattle.cbor4ii_items.proofs.NextByte.{indefinite_follows_not}
 use Rattle.cbor4ii_items.proofs.indefinite.follows.Goals as goal
@@ -7,8 +7,8 @@ use Rattle.cbor4ii_items.proofs.indefinite.follows.Goals as goal
 pub returns-in_err-is_break-in-None-clause-decodes :
     goal.returns-in_err-is_break-in-None-clause-decodes
 returns-in_err-is_break-in-None-clause-decodes g c =
-    let p = err_from_is_err_and c.from_residual.result c.from_residual.ensures.1 in
-    rw (p.1, p.2) (indefinite_follows_not c.in-None.is c.in_err-is_break-in-None.ensures.decodes)
+    decodes_passed _ c.from_residual.ensures.1 (indefinite_follows_not c.in-None.is
+    c.in_err-is_break-in-None.ensures.decodes)
 
 pub returns-then-branch-clause-decodes : goal.returns-then-branch-clause-decodes
 returns-then-branch-clause-decodes g c =

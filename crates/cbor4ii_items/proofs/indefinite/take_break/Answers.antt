@@ -1,6 +1,5 @@
-use Rattle.std.proofs.lemmas.Result.{err_from_is_err_and}
 use Rattle.std.proofs.Common.{IsTrue, false}
-use Rattle.cbor4ii_items.specs.Laws.Running.{runs_err, runs_byte}
+use Rattle.cbor4ii_items.specs.Laws.Running.{runs_byte}
 use Rattle.cbor4ii_items.specs.Laws.ReaderFails.{runs_break}
 use Rattle.cbor4ii_items.proofs.indefinite.take_break.Goals as goal
 
@@ -12,8 +11,3 @@ returns-then-byte g c = record {
   memory = tt;
   failed = λ (f : IsTrue false). absurd (cc);
 }
-
-pub returns-in_err-byte-clause-runs : goal.returns-in_err-byte-clause-runs
-returns-in_err-byte-clause-runs g c =
-    let p = err_from_is_err_and c.from_residual.result c.from_residual.ensures.1 in
-    rw (p.1, p.2) (runs_err _ c.in_err-byte.ensures.runs)

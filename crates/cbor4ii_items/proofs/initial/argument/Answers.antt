@@ -1,10 +1,10 @@
 use Rattle.std.proofs.Common.{◌≡◌, ℕ, ◌<◌, ◌≤◌, List, [], ◌++◌, length, take, drop, Option, Some}
-use Rattle.std.proofs.Common.{None, IfSome, refl, sym, ap, ◌∙◌, subst, arith, length-append}
+use Rattle.std.proofs.Common.{None, IfSome, refl, sym, ap, ◌∙◌, subst, arith, length-append, rules}
 use Rattle.std.specs.Int.{bytes_high_first}
 use Rattle.std.proofs.lemmas.List.{append-nil}
 use Rattle.cbor4ii_items.specs.Prefix.{IsArgument}
-use Rattle.cbor4ii_items.specs.Head.{Width, in_first, one, two, four, eight, byte_count, HeadFits}
-use Rattle.cbor4ii_items.specs.Head.{additional, ArgumentAfter, LacksArgument, IsBytes}
+use Rattle.cbor4ii_items.specs.Head.{Width, in_first, byte_count, HeadFits, additional}
+use Rattle.cbor4ii_items.specs.Head.{ArgumentAfter, LacksArgument, IsBytes}
 use Rattle.cbor4ii_items.specs.ReadHead.{argument_size}
 use Rattle.cbor4ii_items.specs.Laws.Heads.{additional-lt, length-bytes_high_first, number_is}
 use Rattle.cbor4ii_items.specs.Laws.Heads.{wide_of}
@@ -45,17 +45,7 @@ follows info n _ from fits says = ap argument_size says
 
 too_few : (info : ℕ) (trailing : List ℕ) → 24 ≤ info → length trailing < argument_size info
     → LacksArgument info trailing
-too_few info trailing from short n k a =
-    let size = follows info n a.width from a.fits a.says in
-    omega (
-      arith,
-      short,
-      a.size,
-      size,
-      ap length a.is,
-      length-append (bytes_high_first k n) (drop k trailing),
-      length-bytes_high_first k n,
-    )
+too_few info trailing from short n k a = search (rules, length-append, length-bytes_high_first)
 
 pub returns-then-info-lt24-clause-some : goal.returns-then-info-lt24-clause-some
 returns-then-info-lt24-clause-some c =
@@ -72,6 +62,4 @@ returns-clause-some c =
     c.shown_argument.ensures.size
 
 pub returns-clause-none : goal.returns-clause-none
-returns-clause-none c =
-    λ e. too_few c.args.info c.args.trailing.now (omega (arith, c.if-info-lt24.false))
-    (c.shown_argument.ensures.none e)
+returns-clause-none c = search (rules, too_few)

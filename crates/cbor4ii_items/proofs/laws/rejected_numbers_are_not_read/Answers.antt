@@ -1,12 +1,7 @@
+use Rattle.std.proofs.Common.{rules}
 use Rattle.cbor4ii_items.specs.Laws.LeavesApart.{argument_apart, negative_apart}
 use Rattle.cbor4ii_items.specs.Laws.NumbersApart.{signed_apart, u128_apart, i128_apart}
 use Rattle.cbor4ii_items.proofs.laws.rejected_numbers_are_not_read.Goals as goal
 
 pub returns : goal.returns
-returns c = record {
-  heads = argument_apart;
-  negative = negative_apart;
-  signed = signed_apart;
-  unsigned_of_sixteen = u128_apart;
-  signed_of_sixteen = i128_apart;
-}
+returns c = search (rules, argument_apart, negative_apart, signed_apart, u128_apart, i128_apart)

@@ -1,3 +1,4 @@
+use Rattle.std.proofs.Common.{rules}
 use Rattle.cbor4ii_items.specs.ReadHead.{head_at}
 use Rattle.cbor4ii_items.proofs.WholeHeads.{runs_seen, then_runs_or_stays, then_progress}
 use Rattle.cbor4ii_items.proofs.prefix.take_head.Goals as goal
@@ -12,6 +13,4 @@ returns-in-Ok-Cut-clause-runs g c name =
     (rw c.in-Ok-Cut.field-0-is at c.in-Ok-Cut.ensures) (c.take_longer_head.ensures.runs name)
 
 pub returns-in-Ok-Cut-clause-progress : goal.returns-in-Ok-Cut-clause-progress
-returns-in-Ok-Cut-clause-progress g c =
-    then_progress _ c.take_longer_head.result (rw c.in-Ok-Cut.field-0-is at c.in-Ok-Cut.ensures)
-    c.take_longer_head.ensures.progress
+returns-in-Ok-Cut-clause-progress g c = search (rules, then_progress)

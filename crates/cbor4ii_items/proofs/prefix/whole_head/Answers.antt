@@ -1,12 +1,9 @@
-use Rattle.std.proofs.Common.{arith, sym}
+use Rattle.std.proofs.Common.{arith, sym, rules}
 use Rattle.cbor4ii_items.proofs.WholeHeads.{whole_in_first, whole_after}
 use Rattle.cbor4ii_items.proofs.prefix.whole_head.Goals as goal
 
 pub returns-then-info-lt24 : goal.returns-then-info-lt24
-returns-then-info-lt24 c =
-    let byte = c.type_inv.shown 0 in
-    whole_in_first _ _ _ c.in-len1-up.len_at_least (omega (arith, byte)) c.if-first-major.false
-    c.if-info-lt24.true
+returns-then-info-lt24 c = search (rules, whole_in_first)
 
 pub returns-in-Some : goal.returns-in-Some
 returns-in-Some c =

@@ -1,15 +1,10 @@
-use Rattle.std.proofs.Common.{inl}
+use Rattle.std.proofs.Common.{inl, rules}
 use Rattle.std.proofs.lemmas.Result.{err_from_is_err_and}
 use Rattle.cbor4ii_items.specs.Laws.Written.{writes_then, writes_err, in_two_pushes}
 use Rattle.cbor4ii_items.proofs.push.push_string.Goals as goal
 
 pub returns-in_err-push_head : goal.returns-in_err-push_head
-returns-in_err-push_head g c =
-    let p = err_from_is_err_and c.from_residual.result c.from_residual.ensures.1 in
-    record {
-      writes = rw (p.1, p.2) (writes_err _ c.in_err-push_head.ensures.writes);
-      pushes = rw p.1 (λ atomic. inl (c.in_err-push_head.ensures.kept atomic));
-    }
+returns-in_err-push_head g c = search (rules, err_from_is_err_and, writes_err, inl)
 
 pub returns : goal.returns
 returns g c = record {

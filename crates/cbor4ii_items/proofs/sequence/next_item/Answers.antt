@@ -1,13 +1,11 @@
-use Rattle.std.proofs.lemmas.Result.{err_from_is_err_and}
+use Rattle.std.proofs.Common.{rules}
+use Rattle.cbor4ii_items.proofs.Passed.{decodes_passed}
 use Rattle.cbor4ii_items.specs.Laws.ItemOrEnd.{end_fails, item_fails, item_is_next, none_at_end}
 use Rattle.cbor4ii_items.specs.Laws.ItemOrEnd.{none_is_next}
 use Rattle.cbor4ii_items.proofs.sequence.next_item.Goals as goal
 
 pub returns-in_err-is_at_end-clause-decodes : goal.returns-in_err-is_at_end-clause-decodes
-returns-in_err-is_at_end-clause-decodes g c =
-    let p = err_from_is_err_and c.from_residual.result c.from_residual.ensures.1 in
-    rw (p.1, p.2) (end_fails g.T.Decodable.format c.in_err-is_at_end.ensures.runs
-    c.in_err-is_at_end.ensures.memory)
+returns-in_err-is_at_end-clause-decodes g c = search (rules, decodes_passed, end_fails)
 
 pub returns-then-branch-clause-decodes : goal.returns-then-branch-clause-decodes
 returns-then-branch-clause-decodes g c =

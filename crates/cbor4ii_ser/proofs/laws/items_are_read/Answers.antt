@@ -1,39 +1,22 @@
-use Rattle.std.proofs.Common.{ℕ, List, ◌++◌, refl}
+use Rattle.std.proofs.Common.{ℕ, List, ◌++◌, rules}
 use Rattle.cbor4ii_items.specs.Budget.{CostFits}
 use Rattle.cbor4ii_tree.specs.Basis.Cost.{Budget, cost}
 use Rattle.cbor4ii_tree.specs.Basis.Item.{Item}
 use Rattle.cbor4ii_tree.specs.Basis.Meaning.{value}
 use Rattle.cbor4ii_tree.specs.Basis.Encodings.{Encodes, DecodesTo, Skips}
-use Rattle.cbor4ii_tree.specs.Calls.CanonicalShape.{EncodesCanonically}
-use Rattle.cbor4ii_tree.specs.Basis.Tree.{Tree, Plain}
-use Rattle.cbor4ii_ser.specs.OneItem.{Form, shortest_heads, canonical, IsOfForm, OneItem}
+use Rattle.cbor4ii_tree.specs.Basis.Tree.{Tree}
+use Rattle.cbor4ii_ser.specs.OneItem.{Form, canonical, OneItem}
 use Rattle.cbor4ii_ser.specs.OneItem.{IsReadWhole, IsReadCanonically}
 use Rattle.cbor4ii_ser.proofs.laws.items_are_read.Goals as goal
 
-is_plain : (form : Form) (t : Tree) → IsOfForm form t → Plain t
-is_plain shortest_heads t p = p.0
-is_plain canonical t p = p.0
-
 encodes : (form : Form) (bytes : List ℕ) (p : OneItem form bytes)
     → Encodes bytes (value p.of_tree) (cost p.of_tree)
-encodes form bytes p = record {
-  of_tree = p.of_tree;
-  plain = is_plain form p.of_tree p.formed;
-  bytes_are = p.bytes_are;
-  value_is = refl;
-  cost_is = refl;
-}
+encodes form bytes p = search rules
 
 reads : (form : Form) (bytes : List ℕ) (p : OneItem form bytes) (rest : List ℕ) (budget : Budget)
     → CostFits (cost p.of_tree) budget
     → DecodesTo (bytes ++ rest) budget (value p.of_tree) rest
-reads form bytes p rest budget fits = record {
-  encoding = bytes;
-  steps = cost p.of_tree;
-  encodes = encodes form bytes p;
-  fits = fits;
-  begins = refl;
-}
+reads form bytes p rest budget fits = search rules
 
 -- where what is read as a value is skipped
 whole : (form : Form) (bytes : List ℕ) (p : OneItem form bytes)
@@ -47,28 +30,9 @@ whole form bytes p skipped = record {
       (reads form bytes p rest budget fits);
 }
 
-encodes_canonically : (bytes : List ℕ) (p : OneItem canonical bytes)
-    → EncodesCanonically bytes (value p.of_tree) (cost p.of_tree)
-encodes_canonically bytes p = record {
-  of_tree = p.of_tree;
-  canonical = p.formed;
-  bytes_are = p.bytes_are;
-  value_is = refl;
-  cost_is = refl;
-}
-
 canonically : (bytes : List ℕ) (p : OneItem canonical bytes)
     → IsReadCanonically bytes (value p.of_tree) (cost p.of_tree)
-canonically bytes p = record {
-  encodes = encodes_canonically bytes p;
-  reads = λ rest budget fits. record {
-    encoding = bytes;
-    steps = cost p.of_tree;
-    encodes = encodes_canonically bytes p;
-    fits = fits;
-    begins = refl;
-  };
-}
+canonically bytes p = search rules
 
 pub returns-clause-any : goal.returns-clause-any
 returns-clause-any c form bytes p = (

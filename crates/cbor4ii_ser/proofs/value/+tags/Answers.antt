@@ -1,36 +1,25 @@
 use Rattle.cbor4ii_ser.specs.Values.{some_holds_tag, pairs_hold_tag}
 use Rattle.cbor4ii_tree.specs.Basis.View.{items_view, pairs_view}
 use Rattle.std.proofs.Math.Seq.{take-length}
-use Rattle.std.proofs.Common.{sym, ap, ◌∙◌, ◌≡◌, length, take, arith}
+use Rattle.std.proofs.Common.{sym, ap, ◌∙◌, ◌≡◌, length, take, arith, rules}
 use Rattle.cbor4ii_ser.proofs.HoldingTags.{items_none, items_found, pairs_none, key_found}
 use Rattle.cbor4ii_ser.proofs.HoldingTags.{value_found}
 use Rattle.cbor4ii_ser.proofs.value.+tags.Goals as goal
 
 pub some_holds_tag-returns-then-holds_tag : goal.some_holds_tag-returns-then-holds_tag
-some_holds_tag-returns-then-holds_tag t c =
-    sym (items_found c.args.items.now c.loop-item.item-index c.item-item.result
-    c.loop-item-test.true c.item-item.is (sym c.if-holds_tag.ensures))
+some_holds_tag-returns-then-holds_tag t c = search (rules, items_found)
 
 pub some_holds_tag-loop-item-preserved : goal.some_holds_tag-loop-item-preserved
-some_holds_tag-loop-item-preserved t c =
-    items_none c.args.items.now c.loop-item.item-index c.item-item.result c.loop-item-test.true
-    c.item-item.is c.loop-item.invariant (sym c.if-holds_tag.ensures)
+some_holds_tag-loop-item-preserved t c = search (rules, items_none)
 
 pub pairs_hold_tag-returns-then-holds_tag : goal.pairs_hold_tag-returns-then-holds_tag
-pairs_hold_tag-returns-then-holds_tag t c =
-    sym (key_found c.args.pairs.now c.loop-pair.pair-index c.pair-item.result
-    c.loop-pair-test.true c.pair-item.is (sym c.if-holds_tag.ensures))
+pairs_hold_tag-returns-then-holds_tag t c = search (rules, key_found)
 
 pub pairs_hold_tag-returns-then-holds_tag-2 : goal.pairs_hold_tag-returns-then-holds_tag-2
-pairs_hold_tag-returns-then-holds_tag-2 t c =
-    sym (value_found c.args.pairs.now c.loop-pair.pair-index c.pair-item.result
-    c.loop-pair-test.true c.pair-item.is (sym c.if-holds_tag-2.ensures))
+pairs_hold_tag-returns-then-holds_tag-2 t c = search (rules, value_found)
 
 pub pairs_hold_tag-loop-pair-preserved : goal.pairs_hold_tag-loop-pair-preserved
-pairs_hold_tag-loop-pair-preserved t c =
-    pairs_none c.args.pairs.now c.loop-pair.pair-index c.pair-item.result
-    c.loop-pair-test.true c.pair-item.is c.loop-pair.invariant
-    (sym c.if-holds_tag.ensures) (sym c.if-holds_tag-2.ensures)
+pairs_hold_tag-loop-pair-preserved t c = search (rules, pairs_none)
 
 pub some_holds_tag-returns : goal.some_holds_tag-returns
 some_holds_tag-returns t c =

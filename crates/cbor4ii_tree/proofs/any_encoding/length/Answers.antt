@@ -1,5 +1,5 @@
 use Rattle.std.proofs.Common.{false, refl, true}
-use Rattle.cbor4ii_tree.proofs.values.{Gives.gives_none, Sequences.{is_map, length_does}}
+use Rattle.cbor4ii_tree.proofs.values.Sequences.{gives_none, is_map, length_does}
 use Rattle.cbor4ii_tree.proofs.any_encoding.length.Goals as goal
 
 pub returns-then-major-eq-ARRAY : goal.returns-then-major-eq-ARRAY

@@ -1,8 +1,8 @@
 use Rattle.std.proofs.Common.{◌≢◌, ◌⊎◌, subst, rules, arith}
 use Rattle.cbor4ii_tree.specs.{Basis.Canonical.with_bignums, Basis.View.view}
 use Rattle.cbor4ii_tree.specs.declared.value.Value.{Value, the_lemmas}
-use Rattle.cbor4ii_tree.proofs.values.Bignums.{items_change, items_tagged, pairs_change}
-use Rattle.cbor4ii_tree.proofs.values.Bignums.{pairs_tagged, size-at, sizes-at}
+use Rattle.cbor4ii_tree.proofs.values.Encoding.{items_change, items_tagged, pairs_change}
+use Rattle.cbor4ii_tree.proofs.values.Encoding.{pairs_tagged, size-at, sizes-at}
 use Rattle.cbor4ii_tree.proofs.bignum.+bignums.Goals as goal
 
 -- the variant is opened, since its second part is what was changed
@@ -31,18 +31,10 @@ tag_pairs-loop-i-preserved t c =
     )
 
 pub tag_items-tag_bignums-requires : goal.tag_items-tag_bignums-requires
-tag_items-tag_bignums-requires t c =
-    let i = c.loop-i.i in
-    let x = c.index-items-i.result in
-    let small = size-at c.args.items.now i x c.loop-i-test.true in
-    rw (c.loop-i.invariant.0.1 i x (omega arith)) (omega (arith, small, c.decreases), tt)
+tag_items-tag_bignums-requires t c = search (rules, size-at)
 
 pub tag_pairs-tag_pair-requires : goal.tag_pairs-tag_pair-requires
-tag_pairs-tag_pair-requires t c =
-    let i = c.loop-i.i in
-    let x = c.index-pairs-i.result in
-    let small = sizes-at c.args.pairs.now i x c.loop-i-test.true in
-    rw (c.loop-i.invariant.0.1 i x (omega arith)) (omega (arith, small, c.decreases), tt)
+tag_pairs-tag_pair-requires t c = search (rules, sizes-at)
 
 pub tag_items-returns-in_err-tag_bignums-clause-memory :
     goal.tag_items-returns-in_err-tag_bignums-clause-memory

@@ -1,7 +1,7 @@
 use Rattle.std.proofs.Common.{ap, ◌∙◌}
 use Rattle.cbor4ii_items.specs.Magnitude.{without_leading_zeros}
 use Rattle.cbor4ii_tree.specs.{Basis.Item.{bytes_item, tag}, Basis.View.view}
-use Rattle.cbor4ii_tree.proofs.{values.Strings.view-Bytes, values.Encoding.view-Tag}
+use Rattle.cbor4ii_tree.proofs.{values.Heads.view-Bytes, values.Encoding.view-Tag}
 use Rattle.cbor4ii_tree.proofs.bignum.bignum.Goals as goal
 
 pub returns : goal.returns

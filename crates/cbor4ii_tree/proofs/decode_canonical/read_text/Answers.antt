@@ -3,9 +3,9 @@ use Rattle.cbor4ii_items.specs.{Initial.text_string, Shortest.RejectsShortestStr
 use Rattle.cbor4ii_tree.specs.Calls.CanonicalRejects.{CanonicalTextRejects}
 use Rattle.cbor4ii_tree.specs.Basis.InputError.{require_utf8, kind_name}
 use Rattle.cbor4ii_tree.specs.Inner.CanonicalCalls.{StringAt, TextAt}
-use Rattle.cbor4ii_tree.proofs.canonical.Decoding.{reached_string, no_text}
-use Rattle.cbor4ii_tree.proofs.skip_calls.Doing.{does_ok, does_reject, reached_as, call_rejects}
-use Rattle.cbor4ii_tree.proofs.values.Asking.{passed}
+use Rattle.cbor4ii_tree.proofs.{canonical.Once.{reached_string, no_text}, skip_calls.Doing.does_ok}
+use Rattle.cbor4ii_tree.proofs.skip_calls.Doing.{does_reject, reached_as, call_rejects}
+use Rattle.cbor4ii_tree.proofs.values.Sequences.{passed}
 use Rattle.cbor4ii_tree.proofs.decode_canonical.read_text.Goals as goal
 
 pub returns-in_err-canonical_buf-clause-does : goal.returns-in_err-canonical_buf-clause-does

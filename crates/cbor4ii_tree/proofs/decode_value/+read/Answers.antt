@@ -1,29 +1,29 @@
 use Rattle.std.proofs.Common.{rules, inl, inr, refl, sym, ap, subst, arith, ◌∙◌, ◌∷◌, [], false}
 use Rattle.std.proofs.Common.{true, Vec, Global, Some}
-use Rattle.cbor4ii_items.specs.Laws.{Running.kept_alike, Steps.kept_then}
-use Rattle.cbor4ii_tree.specs.Inner.{Does.error_left, LeafRuns.pair_values, Valuing.flat_values}
-use Rattle.cbor4ii_tree.specs.Inner.Valuing.{ReadsUnder, RejectsOf}
-use Rattle.cbor4ii_tree.specs.Basis.{InputError.value_name, Item.{IsItem, tag}, View.view}
-use Rattle.cbor4ii_tree.specs.declared.value.Value.{Tag, Value}
+use Rattle.cbor4ii_items.specs.{Laws.Running.kept_alike, Laws.Steps.kept_then}
+use Rattle.cbor4ii_tree.specs.{Inner.Does.error_left, Inner.LeafRuns.pair_values}
+use Rattle.cbor4ii_tree.specs.Inner.Valuing.{flat_values, ReadsUnder, RejectsOf}
+use Rattle.cbor4ii_tree.specs.{Basis.InputError.value_name, Basis.Item.{IsItem, tag}}
+use Rattle.cbor4ii_tree.specs.{Basis.View.view, declared.value.Value.{Tag, Value}}
 use Rattle.cbor4ii_tree.proofs.skip_calls.Doing.{reached_by, does_ok, does_no_memory, does_no_step}
 use Rattle.cbor4ii_tree.proofs.skip_calls.Doing.{refused, reached_as, still_rejected}
-use Rattle.cbor4ii_tree.proofs.values.ByHead.{peeks_next, after_next, next_first}
-use Rattle.cbor4ii_tree.proofs.values.{Calls.value_no_step, Encoding.view-Tag, Heads.major_arm}
-use Rattle.cbor4ii_tree.proofs.values.{Heads.{tag_does, tagged_ok}, InRange.{items_are, items_none}}
-use Rattle.cbor4ii_tree.proofs.values.LeafRuns.{flat-push, ran, none_read, ReadEach, one_item}
-use Rattle.cbor4ii_tree.proofs.values.LeafRuns.{none_too_many, run_rejects, stop_alone, both_there}
-use Rattle.cbor4ii_tree.proofs.values.LeafRuns.{pairs_are, pairs_are_read, turn_unstepped}
-use Rattle.cbor4ii_tree.proofs.values.LeafRuns.{turn_rejected, turn_ends, run_before, on_found}
+use Rattle.cbor4ii_tree.proofs.values.Heads.{peeks_next, after_next, next_first, value_no_step}
+use Rattle.cbor4ii_tree.proofs.values.Heads.{major_arm, tag_does, tagged_ok}
+use Rattle.cbor4ii_tree.proofs.{values.Encoding.view-Tag, values.InRange.{items_are, items_none}}
+use Rattle.cbor4ii_tree.proofs.values.Sequences.{flat-push, ran, none_read, ReadEach, one_item}
+use Rattle.cbor4ii_tree.proofs.values.Sequences.{none_too_many, run_rejects, stop_alone, both_there}
+use Rattle.cbor4ii_tree.proofs.values.Sequences.{pairs_are, pairs_are_read, turn_unstepped}
+use Rattle.cbor4ii_tree.proofs.values.Sequences.{turn_rejected, turn_ends, run_before, on_found}
 use Rattle.cbor4ii_tree.proofs.values.Sequences.{break_taken, no_break_yet, no_byte_left, put_read}
 use Rattle.cbor4ii_tree.proofs.values.Sequences.{value_stops, pair_stops, pair_read, value_rejected}
-use Rattle.cbor4ii_tree.proofs.values.Sequences.{none_follow, parts_deep, made_of}
-use Rattle.cbor4ii_tree.proofs.values.Gives.{gives_err, gives_on, gives_as, value_stepped}
-use Rattle.cbor4ii_tree.proofs.values.Gives.{second_stepped, items_stepped, item_put, counted_gives}
-use Rattle.cbor4ii_tree.proofs.values.Gives.{look_gives, no_want, as_found, as_left, counted_made}
-use Rattle.cbor4ii_tree.proofs.values.{Gives.opened_made, Asking.{asks_after, asks_as, asks_here}}
-use Rattle.cbor4ii_tree.proofs.values.Asking.{in_any, in_first, in_further, in_next, in_string}
-use Rattle.cbor4ii_tree.proofs.values.Asking.{in_tagged, not_wanted, put_grows, turn_asks, value_is}
-use Rattle.cbor4ii_tree.proofs.values.Asking.{values_are}
+use Rattle.cbor4ii_tree.proofs.values.Sequences.{none_follow, parts_deep, made_of, gives_err}
+use Rattle.cbor4ii_tree.proofs.values.Sequences.{gives_on, gives_as, value_stepped, second_stepped}
+use Rattle.cbor4ii_tree.proofs.values.Sequences.{items_stepped, item_put, parts_give, look_gives}
+use Rattle.cbor4ii_tree.proofs.values.Sequences.{no_want, as_found, as_left, parts_found}
+use Rattle.cbor4ii_tree.proofs.values.Sequences.{asks_after, asks_as, asks_here, in_any, in_first}
+use Rattle.cbor4ii_tree.proofs.values.Sequences.{in_further, in_next, in_string, in_tagged}
+use Rattle.cbor4ii_tree.proofs.values.Sequences.{not_wanted, put_grows, turn_asks, value_is}
+use Rattle.cbor4ii_tree.proofs.values.Sequences.{values_are}
 use Rattle.cbor4ii_tree.proofs.decode_value.+read.Goals.{array_inside-in-Some, array_inside-in-None}
 use Rattle.cbor4ii_tree.proofs.decode_value.+read.Goals.{map_inside-in-Some, map_inside-in-None}
 use Rattle.cbor4ii_tree.proofs.decode_value.+read.Goals as goal
@@ -44,8 +44,8 @@ read_array-returns-then-not-step_in g t c =
 
 pub array_inside-returns-in-Some-eq0 : goal.array_inside-returns-in-Some-eq0
 array_inside-returns-in-Some-eq0 g t c =
-    counted_gives false _ c.in_ok-take_length.ensures.does c.in_ok-take_length.ensures.gains
-    (items_none c.new.ensures.items) tt 0 (c.in-Some-eq0.is ∙ ap Some c.in-Some-eq0.field-0-test)
+    parts_give false _ c.in_ok-take_length.ensures.does c.in_ok-take_length.ensures.gains (Some 0)
+    (c.in-Some-eq0.is ∙ ap Some c.in-Some-eq0.field-0-test) (items_none c.new.ensures.items) tt
     (none_follow _ (λ (v : Vec Value Global). v.items) _ c.new.ensures.items)
 
 pub array_inside-returns : goal.array_inside-returns
@@ -53,15 +53,13 @@ array_inside-returns g t c =
     as_found (made_of false) c.match-branch-2.items c.match-branch-2.failure _ c.in_ok-items.was
     (elim c.match-branch-2.branch [
       | array_inside-in-Some w ↦ rw w.reader-is (rw w.failure-is (rw w.items-is
-          (counted_made false _ _ _ c.in_ok-take_length.ensures.does
-          c.in_ok-take_length.ensures.gains w.definite_items-items.ensures.items _ w.in-Some.is
-          (omega arith) w.definite_items-items.ensures.memory
-          w.definite_items-items.ensures.does)))
+          (parts_found false _ c.in_ok-take_length.ensures.does c.in_ok-take_length.ensures.gains _
+          w.in-Some.is _ _ w.definite_items-items.ensures.items (omega arith)
+          w.definite_items-items.ensures.memory w.definite_items-items.ensures.does)))
       | array_inside-in-None w ↦ rw w.reader-is (rw w.failure-is (rw w.items-is
-          (opened_made false _ _ _ c.in_ok-take_length.ensures.does
-          c.in_ok-take_length.ensures.gains w.indefinite_items-items.ensures.items w.in-None.is
-          w.indefinite_items-items.ensures.memory
-          w.indefinite_items-items.ensures.does)))
+          (parts_found false _ c.in_ok-take_length.ensures.does c.in_ok-take_length.ensures.gains _
+          w.in-None.is _ _ w.indefinite_items-items.ensures.items tt
+          w.indefinite_items-items.ensures.memory w.indefinite_items-items.ensures.does)))
     ])
 
 pub array_inside-returns-in_err-items : goal.array_inside-returns-in_err-items
@@ -70,15 +68,13 @@ array_inside-returns-in_err-items g t c =
     c.match-branch-2.failure c.in_err-items.was
     (elim c.match-branch-2.branch [
       | array_inside-in-Some w ↦ rw w.reader-is (rw w.failure-is (rw w.items-is
-          (counted_made false _ _ _ c.in_ok-take_length.ensures.does
-          c.in_ok-take_length.ensures.gains w.definite_items-items.ensures.items _ w.in-Some.is
-          (omega arith) w.definite_items-items.ensures.memory
-          w.definite_items-items.ensures.does)))
+          (parts_found false _ c.in_ok-take_length.ensures.does c.in_ok-take_length.ensures.gains _
+          w.in-Some.is _ _ w.definite_items-items.ensures.items (omega arith)
+          w.definite_items-items.ensures.memory w.definite_items-items.ensures.does)))
       | array_inside-in-None w ↦ rw w.reader-is (rw w.failure-is (rw w.items-is
-          (opened_made false _ _ _ c.in_ok-take_length.ensures.does
-          c.in_ok-take_length.ensures.gains w.indefinite_items-items.ensures.items w.in-None.is
-          w.indefinite_items-items.ensures.memory
-          w.indefinite_items-items.ensures.does)))
+          (parts_found false _ c.in_ok-take_length.ensures.does c.in_ok-take_length.ensures.gains _
+          w.in-None.is _ _ w.indefinite_items-items.ensures.items tt
+          w.indefinite_items-items.ensures.memory w.indefinite_items-items.ensures.does)))
     ]))
 
 pub array_inside-returns-in_err-take_length : goal.array_inside-returns-in_err-take_length
@@ -100,9 +96,9 @@ read_map-returns-then-not-step_in g t c =
 
 pub map_inside-returns-in-Some-eq0 : goal.map_inside-returns-in-Some-eq0
 map_inside-returns-in-Some-eq0 g t c =
-    counted_gives true _ c.in_ok-take_length.ensures.does c.in_ok-take_length.ensures.gains
-    (items_none (ap flat_values c.new.ensures.items)) tt 0
-    (c.in-Some-eq0.is ∙ ap Some c.in-Some-eq0.field-0-test) (none_follow _ (λ (v : Vec
+    parts_give true _ c.in_ok-take_length.ensures.does c.in_ok-take_length.ensures.gains (Some 0)
+    (c.in-Some-eq0.is ∙ ap Some c.in-Some-eq0.field-0-test)
+    (items_none (ap flat_values c.new.ensures.items)) tt (none_follow _ (λ (v : Vec
     (Value × Value) Global). flat_values v.items) _ (ap flat_values c.new.ensures.items))
 
 pub map_inside-returns : goal.map_inside-returns
@@ -110,15 +106,13 @@ map_inside-returns g t c =
     as_found (made_of true) c.match-branch-2.pairs c.match-branch-2.failure _ c.in_ok-pairs.was
     (elim c.match-branch-2.branch [
       | map_inside-in-Some w ↦ rw w.reader-is (rw w.failure-is (rw w.pairs-is
-          (counted_made true _ _ _ c.in_ok-take_length.ensures.does
-          c.in_ok-take_length.ensures.gains w.definite_pairs-pairs.ensures.items _ w.in-Some.is
-          (omega arith) w.definite_pairs-pairs.ensures.memory
-          w.definite_pairs-pairs.ensures.does)))
+          (parts_found true _ c.in_ok-take_length.ensures.does c.in_ok-take_length.ensures.gains _
+          w.in-Some.is _ _ w.definite_pairs-pairs.ensures.items (omega arith)
+          w.definite_pairs-pairs.ensures.memory w.definite_pairs-pairs.ensures.does)))
       | map_inside-in-None w ↦ rw w.reader-is (rw w.failure-is (rw w.pairs-is
-          (opened_made true _ _ _ c.in_ok-take_length.ensures.does
-          c.in_ok-take_length.ensures.gains w.indefinite_pairs-pairs.ensures.items w.in-None.is
-          w.indefinite_pairs-pairs.ensures.memory
-          w.indefinite_pairs-pairs.ensures.does)))
+          (parts_found true _ c.in_ok-take_length.ensures.does c.in_ok-take_length.ensures.gains _
+          w.in-None.is _ _ w.indefinite_pairs-pairs.ensures.items tt
+          w.indefinite_pairs-pairs.ensures.memory w.indefinite_pairs-pairs.ensures.does)))
     ])
 
 pub map_inside-returns-in_err-pairs : goal.map_inside-returns-in_err-pairs
@@ -127,15 +121,13 @@ map_inside-returns-in_err-pairs g t c =
     c.match-branch-2.failure c.in_err-pairs.was
     (elim c.match-branch-2.branch [
       | map_inside-in-Some w ↦ rw w.reader-is (rw w.failure-is (rw w.pairs-is
-          (counted_made true _ _ _ c.in_ok-take_length.ensures.does
-          c.in_ok-take_length.ensures.gains w.definite_pairs-pairs.ensures.items _ w.in-Some.is
-          (omega arith) w.definite_pairs-pairs.ensures.memory
-          w.definite_pairs-pairs.ensures.does)))
+          (parts_found true _ c.in_ok-take_length.ensures.does c.in_ok-take_length.ensures.gains _
+          w.in-Some.is _ _ w.definite_pairs-pairs.ensures.items (omega arith)
+          w.definite_pairs-pairs.ensures.memory w.definite_pairs-pairs.ensures.does)))
       | map_inside-in-None w ↦ rw w.reader-is (rw w.failure-is (rw w.pairs-is
-          (opened_made true _ _ _ c.in_ok-take_length.ensures.does
-          c.in_ok-take_length.ensures.gains w.indefinite_pairs-pairs.ensures.items w.in-None.is
-          w.indefinite_pairs-pairs.ensures.memory
-          w.indefinite_pairs-pairs.ensures.does)))
+          (parts_found true _ c.in_ok-take_length.ensures.does c.in_ok-take_length.ensures.gains _
+          w.in-None.is _ _ w.indefinite_pairs-pairs.ensures.items tt
+          w.indefinite_pairs-pairs.ensures.memory w.indefinite_pairs-pairs.ensures.does)))
     ]))
 
 pub map_inside-returns-in_err-take_length : goal.map_inside-returns-in_err-take_length
@@ -176,10 +168,7 @@ read_inside-returns-in-Begins g t c =
     look_gives _ _ _ c.in-Begins.is c.in_ok-value.ensures c.read_next.ensures
 
 pub indefinite_items-loop-items-init : goal.indefinite_items-loop-items-init
-indefinite_items-loop-items-init g t c = record {
-  reached = none_read _ _ _ (cc);
-  items = items_none (cc);
-}
+indefinite_items-loop-items-init g t c = search (rules, none_read, items_none)
 
 pub indefinite_items-loop-items-preserved : goal.indefinite_items-loop-items-preserved
 indefinite_items-loop-items-preserved g t c = record {
@@ -197,12 +186,6 @@ pub indefinite_items-returns-clause-does : goal.indefinite_items-returns-clause-
 indefinite_items-returns-clause-does g t c =
     does_ok _ _ (break_taken _ _ c.loop-items.invariant.reached c.is_break.ensures.decodes
     c.in_ok-part.ensures c.if-not-branch.false)
-
-pub indefinite_items-returns-in_err-part-clause-does :
-    goal.indefinite_items-returns-in_err-part-clause-does
-indefinite_items-returns-in_err-part-clause-does g t c =
-    rw c.from_residual.ensures (no_byte_left false _ _ _ c.loop-items.invariant.reached
-    c.is_break.ensures.decodes c.in_err-part.ensures)
 
 pub indefinite_items-returns-in_err-value : goal.indefinite_items-returns-in_err-value
 indefinite_items-returns-in_err-value g t c =
@@ -253,12 +236,6 @@ pub indefinite_pairs-returns-clause-does : goal.indefinite_pairs-returns-clause-
 indefinite_pairs-returns-clause-does g t c =
     does_ok _ _ (break_taken _ _ c.loop-pairs.invariant.reached c.is_break.ensures.decodes
     c.in_ok-part.ensures c.if-not-branch.false)
-
-pub indefinite_pairs-returns-in_err-part-clause-does :
-    goal.indefinite_pairs-returns-in_err-part-clause-does
-indefinite_pairs-returns-in_err-part-clause-does g t c =
-    rw c.from_residual.ensures (no_byte_left true _ c.loop-pairs.pairs.items _
-    c.loop-pairs.invariant.reached c.is_break.ensures.decodes c.in_err-part.ensures)
 
 pub indefinite_pairs-returns-in_err-pair : goal.indefinite_pairs-returns-in_err-pair
 indefinite_pairs-returns-in_err-pair g t c =
@@ -439,12 +416,6 @@ definite_items-loop-alloc-preserved g t c = record {
   few = c.in_ok-more_items.ensures.ranged.1;
 }
 
-pub definite_items-returns-in_err-more_items-clause-does :
-    goal.definite_items-returns-in_err-more_items-clause-does
-definite_items-returns-in_err-more_items-clause-does g t c =
-    rw c.from_residual.ensures (stop_alone _ _ _ _ (run_rejects _ _ _ _
-    c.loop-alloc.invariant.reached _ c.in_err-more_items.ensures.does))
-
 -- ---- a map whose pairs are counted
 
 pub definite_pairs-loop-alloc-init : goal.definite_pairs-loop-alloc-init
@@ -461,12 +432,6 @@ definite_pairs-loop-alloc-preserved g t c = record {
   items = c.in_ok-more_pairs.ensures.ranged.0 c.loop-alloc.invariant.items;
   few = c.in_ok-more_pairs.ensures.ranged.1;
 }
-
-pub definite_pairs-returns-in_err-more_pairs-clause-does :
-    goal.definite_pairs-returns-in_err-more_pairs-clause-does
-definite_pairs-returns-in_err-more_pairs-clause-does g t c =
-    rw c.from_residual.ensures (run_rejects _ _ _ _ c.loop-alloc.invariant.reached _
-    c.in_err-more_pairs.ensures.does)
 
 pub definite_pairs-returns-clause-does : goal.definite_pairs-returns-clause-does
 definite_pairs-returns-clause-does g t c =
@@ -490,33 +455,49 @@ read_next-returns-in_default g t c =
     gives_as (λ string before shows. in_string _ _ (next_first _ shows) string)
     (λ d before shows. d before (next_first _ shows)) c.read_alone.ensures
 
-pub indefinite_items-returns-in_err-part-clause-memory :
-    goal.indefinite_items-returns-in_err-part-clause-memory
-indefinite_items-returns-in_err-part-clause-memory g t c =
-    rw c.from_residual.ensures (λ want. absurd (no_want (rw c.in_err-part.ensures at
-    c.is_break.ensures.decodes.memory) want))
+pub indefinite_items-returns-in_err-part : goal.indefinite_items-returns-in_err-part
+indefinite_items-returns-in_err-part g t c =
+    rw c.from_residual.ensures (record {
+      does = no_byte_left false _ _ _ c.loop-items.invariant.reached c.is_break.ensures.decodes
+          c.in_err-part.ensures;
+      memory = λ want. absurd (no_want (rw c.in_err-part.ensures at
+          c.is_break.ensures.decodes.memory) want);
+      items = tt;
+    })
 
-pub indefinite_pairs-returns-in_err-part-clause-memory :
-    goal.indefinite_pairs-returns-in_err-part-clause-memory
-indefinite_pairs-returns-in_err-part-clause-memory g t c =
-    rw c.from_residual.ensures (λ want. absurd (no_want (rw c.in_err-part.ensures at
-    c.is_break.ensures.decodes.memory) want))
+pub indefinite_pairs-returns-in_err-part : goal.indefinite_pairs-returns-in_err-part
+indefinite_pairs-returns-in_err-part g t c =
+    rw c.from_residual.ensures (record {
+      does = no_byte_left true _ c.loop-pairs.pairs.items _ c.loop-pairs.invariant.reached
+          c.is_break.ensures.decodes c.in_err-part.ensures;
+      memory = λ want. absurd (no_want (rw c.in_err-part.ensures at
+          c.is_break.ensures.decodes.memory) want);
+      items = tt;
+    })
 
 pub definite_items-returns-then-not-make_room-clause-memory :
     goal.definite_items-returns-then-not-make_room-clause-memory
 definite_items-returns-then-not-make_room-clause-memory g t c want =
     asks_here _ (λ xs ys h. inl (0, omega arith, values_are _ _ [] xs ys h)) (none_read _ _ [] refl)
 
-pub definite_items-returns-in_err-more_items-clause-memory :
-    goal.definite_items-returns-in_err-more_items-clause-memory
-definite_items-returns-in_err-more_items-clause-memory g t c =
-    rw c.from_residual.ensures (λ want. asks_after (λ xs us ys h s. in_any _ xs ys (in_further _ xs
-    us ys (values_are _ _ _ xs us h) s)) c.loop-alloc.invariant.reached
-    (c.in_err-more_items.ensures.memory want))
+pub definite_items-returns-in_err-more_items : goal.definite_items-returns-in_err-more_items
+definite_items-returns-in_err-more_items g t c =
+    rw c.from_residual.ensures (record {
+      does = stop_alone _ _ _ _ (run_rejects _ _ _ _
+          c.loop-alloc.invariant.reached _ c.in_err-more_items.ensures.does);
+      memory = λ want. asks_after (λ xs us ys h s. in_any _ xs ys (in_further _ xs us ys
+          (values_are _ _ _ xs us h) s)) c.loop-alloc.invariant.reached
+          (c.in_err-more_items.ensures.memory want);
+      items = tt;
+    })
 
-pub definite_pairs-returns-in_err-more_pairs-clause-memory :
-    goal.definite_pairs-returns-in_err-more_pairs-clause-memory
-definite_pairs-returns-in_err-more_pairs-clause-memory g t c =
-    rw c.from_residual.ensures (λ want. asks_after (λ xs us ys h s. in_any _ xs ys (in_further _ xs
-    us ys (values_are _ _ _ xs us h) s)) c.loop-alloc.invariant.reached
-    (c.in_err-more_pairs.ensures.memory want))
+pub definite_pairs-returns-in_err-more_pairs : goal.definite_pairs-returns-in_err-more_pairs
+definite_pairs-returns-in_err-more_pairs g t c =
+    rw c.from_residual.ensures (record {
+      does = run_rejects _ _ _ _ c.loop-alloc.invariant.reached _
+          c.in_err-more_pairs.ensures.does;
+      memory = λ want. asks_after (λ xs us ys h s. in_any _ xs ys (in_further _ xs us ys
+          (values_are _ _ _ xs us h) s)) c.loop-alloc.invariant.reached
+          (c.in_err-more_pairs.ensures.memory want);
+      items = tt;
+    })

@@ -1,7 +1,7 @@
 use Rattle.std.proofs.Common.{◌+◌, ◌*◌, ◌≤◌, length}
 use Rattle.cbor4ii_tree.specs.{Basis.Item.AreItems, Inner.LeafRuns.pair_values}
 use Rattle.cbor4ii_tree.specs.{Inner.Valuing.flat_values, Basis.View.items_view}
-use Rattle.cbor4ii_tree.proofs.{skip_calls.Doing.Reached, values.LeafRuns.ReadEach}
+use Rattle.cbor4ii_tree.proofs.{skip_calls.Doing.Reached, values.Sequences.ReadEach}
 use Rattle.cbor4ii_tree.proofs.decode_value.+read.Given as goal
 
 abbrev pub decreases-read_value : goal.decreases-read_value

@@ -1,9 +1,8 @@
 use Rattle.std.proofs.Common.{arith, refl, subst, sym}
 use Rattle.cbor4ii_tree.specs.{Basis.Item.IsItem, Inner.Valuing.SimpleOf}
-use Rattle.cbor4ii_tree.proofs.values.{Asking.not_wanted, ByHead.peeked_first}
-use Rattle.cbor4ii_tree.proofs.values.Gives.{gives_err, gives_of, wants_as}
-use Rattle.cbor4ii_tree.proofs.values.Heads.{first_does, simple_read, undefined_rejected}
-use Rattle.cbor4ii_tree.proofs.values.Leaves.{simple_item_is}
+use Rattle.cbor4ii_tree.proofs.values.Sequences.{not_wanted, gives_err, gives_of, wants_as}
+use Rattle.cbor4ii_tree.proofs.values.Heads.{peeked_first, first_does, simple_read}
+use Rattle.cbor4ii_tree.proofs.values.Heads.{undefined_rejected, simple_item_is}
 use Rattle.cbor4ii_tree.proofs.decode_value.read_alone.Goals as goal
 
 pub returns-then-first-ne-SIMPLE : goal.returns-then-first-ne-SIMPLE

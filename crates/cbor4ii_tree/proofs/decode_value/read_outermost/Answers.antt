@@ -1,7 +1,7 @@
 use Rattle.std.proofs.Common.{refl}
-use Rattle.cbor4ii_tree.specs.{Basis.InputError.value_name}
-use Rattle.cbor4ii_tree.proofs.{skip_calls.Doing.does_no_step, values.Calls.value_no_step}
-use Rattle.cbor4ii_tree.proofs.values.{Asking.not_wanted, Gives.{gives_err, value_stepped}}
+use Rattle.cbor4ii_tree.specs.Basis.InputError.{value_name}
+use Rattle.cbor4ii_tree.proofs.{skip_calls.Doing.does_no_step, values.Heads.value_no_step}
+use Rattle.cbor4ii_tree.proofs.values.Sequences.{not_wanted, gives_err, value_stepped}
 use Rattle.cbor4ii_tree.proofs.decode_value.read_outermost.Goals as goal
 
 pub returns : goal.returns

@@ -1,5 +1,6 @@
-use Rattle.cbor4ii_tree.proofs.{skip_calls.Doing.does_ok, values.ByHead.{next_first, takes_head}}
-use Rattle.cbor4ii_tree.proofs.values.{ByHead.head_gains, Gives.gives_as}
+use Rattle.std.proofs.Common.{rules}
+use Rattle.cbor4ii_tree.proofs.{skip_calls.Doing.does_ok, values.Heads.{next_first, takes_head}}
+use Rattle.cbor4ii_tree.proofs.{values.Heads.head_gains, values.Sequences.gives_as}
 use Rattle.cbor4ii_tree.proofs.decode_value.take_length.Goals as goal
 
 pub returns-in-Some : goal.returns-in-Some
@@ -15,6 +16,4 @@ returns-in-Some g c =
     }
 
 pub returns-in-None : goal.returns-in-None
-returns-in-None g c =
-    gives_as (λ never. never) (λ d before shows. d before (next_first _ shows))
-    c.take_length.ensures
+returns-in-None g c = search (rules, gives_as, next_first)

@@ -1,6 +1,6 @@
 use Rattle.cbor4ii_tree.specs.Inner.Valuing.{RejectsOf, TakesTag}
-use Rattle.cbor4ii_tree.proofs.{skip_calls.Doing.does_ok, values.ByHead.{after_next, takes_head}}
-use Rattle.cbor4ii_tree.proofs.values.{ByHead.head_gains, Gives.gives_as}
+use Rattle.cbor4ii_tree.proofs.{skip_calls.Doing.does_ok, values.Heads.{after_next, takes_head}}
+use Rattle.cbor4ii_tree.proofs.{values.Heads.head_gains, values.Sequences.gives_as}
 use Rattle.cbor4ii_tree.proofs.decode_value.take_tag.Goals as goal
 
 pub returns-in-Some : goal.returns-in-Some

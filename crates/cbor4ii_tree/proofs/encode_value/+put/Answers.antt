@@ -1,6 +1,5 @@
-use Rattle.std.proofs.Common.{◌≡◌, ◌<◌, ◌^◌, length, sym, ap, ◌∙◌, arith, rules}
+use Rattle.std.proofs.Common.{◌≡◌, sym, ap, ◌∙◌, rules}
 use Rattle.std.proofs.lemmas.Int.{to_z-of_z}
-use Rattle.std.specs.Prelude.{string_bytes}
 use mir.Syntax.{w128}
 use mir.Val.{to_z, of_z}
 use Rattle.cbor4ii_items.specs.Laws.{SequenceBytes.{items_then, items_err}, Written.writes_then}
@@ -100,33 +99,20 @@ put_value-returns-in-Integer-clause-writes g t c =
     c.in-Integer.is ∙ view-Integer n))) c.put_integer.ensures.writes
 
 pub put_value-returns-in-Text-clause-item : goal.put_value-returns-in-Text-clause-item
-put_value-returns-in-Text-clause-item g t c =
-    let small : length (string_bytes c.in-Text.text) < 2 ^ 64 =
-    omega (arith, c.in-Text.text.bytes.small, c.in-Text.text.bytes.ok) in
-    on_some {P = Unit {0}} _ (λ _. text_in_range _ _ c.in-Text.is small) (on_any_some _)
+put_value-returns-in-Text-clause-item g t c = search (rules, on_some, text_in_range, on_any_some)
 
 pub put_value-returns-in-Array-clause-item : goal.put_value-returns-in-Array-clause-item
-put_value-returns-in-Array-clause-item g t c =
-    on_some c.put_array.result
-    (array_in_range c.args.value.now c.in-Array.items c.deref-in-Array.result.now c.in-Array.is
-    c.deref-in-Array.ensures.value c.deref-in-Array.type_inv.0) c.put_array.ensures.items
+put_value-returns-in-Array-clause-item g t c = search (rules, on_some, array_in_range)
 
 pub put_value-returns-in-Map-clause-item : goal.put_value-returns-in-Map-clause-item
-put_value-returns-in-Map-clause-item g t c =
-    on_some c.put_map.result
-    (map_in_range c.args.value.now c.in-Map.pairs c.deref-in-Map.result.now c.in-Map.is
-    c.deref-in-Map.ensures.value c.deref-in-Map.type_inv.0) c.put_map.ensures.pairs
+put_value-returns-in-Map-clause-item g t c = search (rules, on_some, map_in_range)
 
 pub put_value-returns-in-Array-clause-writes : goal.put_value-returns-in-Array-clause-writes
-put_value-returns-in-Array-clause-writes g t c =
-    writes_as _ (Array-bytes _ _ _ c.in-Array.is c.deref-in-Array.ensures.value)
-    c.put_array.ensures.writes
+put_value-returns-in-Array-clause-writes g t c = search (rules, writes_as, Array-bytes)
 
 pub put_value-returns-in-Map-clause-writes : goal.put_value-returns-in-Map-clause-writes
 put_value-returns-in-Map-clause-writes g t c =
     writes_as _ (Map-bytes _ _ _ c.in-Map.is c.deref-in-Map.ensures.value) c.put_map.ensures.writes
 
 pub put_value-returns-in-Tag-clause-writes : goal.put_value-returns-in-Tag-clause-writes
-put_value-returns-in-Tag-clause-writes g t c =
-    writes_as _ (Tag-bytes c.args.value.now c.deref-in-Tag.result.now c.in-Tag.number c.in-Tag.inner
-    c.in-Tag.is c.deref-in-Tag.ensures) c.put_tag.ensures.writes
+put_value-returns-in-Tag-clause-writes g t c = search (rules, writes_as, Tag-bytes)

@@ -1,22 +1,15 @@
-use Rattle.std.proofs.{Common.{arith, map, rules, subst, sym}, lemmas.List.Sorted.answers_always}
+use Rattle.std.proofs.{Common.{rules, subst, sym}, lemmas.List.Sorted.answers_always}
 use Rattle.std.specs.List.Sorted.{IsSortedBy}
-use Rattle.cbor4ii_tree.specs.{Calls.Access.HasTwoPairs, Basis.View.pairs_view}
-use Rattle.cbor4ii_tree.specs.Calls.TotalOrder.{Repeats, is_before, item_behind}
-use Rattle.cbor4ii_tree.proofs.values.Keys.{before_by, before_is_order, keys_short, sorted_keys}
-use Rattle.cbor4ii_tree.proofs.values.Views.{pair_count-pairs_view}
+use Rattle.cbor4ii_tree.specs.Calls.TotalOrder.{is_before}
+use Rattle.cbor4ii_tree.proofs.values.Encoding.{before_by, before_is_order, keys_short, sorted_keys}
+use Rattle.cbor4ii_tree.proofs.values.Encoding.{pair_count-pairs_view}
 use Rattle.cbor4ii_tree.proofs.equal_keys.repeats_a_key.Goals as goal
 
 pub returns-then-len-lt2-clause-answer : goal.returns-then-len-lt2-clause-answer
-returns-then-len-lt2-clause-answer c =
-    let ms = c.args.pairs.now.items in
-    (λ f. absurd (cc f), λ h. absurd (keys_short ms (omega (arith, c.args.pairs.now.ok)) h))
+returns-then-len-lt2-clause-answer c = search (rules, keys_short)
 
 pub returns-in_err-keys-clause-memory : goal.returns-in_err-keys-clause-memory
-returns-in_err-keys-clause-memory c =
-    let ms = c.args.pairs.now.items in
-    let two : HasTwoPairs (pairs_view ms) =
-    omega (arith, c.args.pairs.now.ok, pair_count-pairs_view ms) in
-    search (rules, two)
+returns-in_err-keys-clause-memory c = search (rules, pair_count-pairs_view)
 
 pub has_equal_neighbours-requires : goal.has_equal_neighbours-requires
 has_equal_neighbours-requires c =
@@ -25,12 +18,4 @@ has_equal_neighbours-requires c =
     (answers_always _ _ _ (λ f a r next called. search (rules, before_by))))
 
 pub returns-clause-answer : goal.returns-clause-answer
-returns-clause-answer c =
-    let found = c.has_equal_neighbours.ensures in
-    let sort = c.sort_unstable_by in
-    let same = sorted_keys c.args.pairs.now.items c.in_ok-keys.keys.items sort.new.self.items
-    c.in_ok-keys.ensures sort.ensures.permutation in (
-      λ f. same.1 (subst (λ l. Repeats (map item_behind l)) c.deref.ensures.value (found.0 f)),
-      λ h. found.1 (subst (λ l. Repeats (map item_behind l)) (sym c.deref.ensures.value)
-          (same.0 h)),
-    )
+returns-clause-answer c = search (rules, sorted_keys)

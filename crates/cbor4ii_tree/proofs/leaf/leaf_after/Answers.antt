@@ -1,7 +1,6 @@
 use Rattle.std.proofs.Common.{sym, arith}
 use Rattle.cbor4ii_items.specs.Initial.{unsigned, negative}
-use Rattle.cbor4ii_tree.proofs.{values.Heads.negative_z, values.Leaves.{int_ahead, fresh_shown}}
-use Rattle.cbor4ii_tree.proofs.values.Calls.{small_z, fits_less}
+use Rattle.cbor4ii_tree.proofs.values.Heads.{negative_z, int_ahead, fresh_shown, small_z, fits_less}
 use Rattle.cbor4ii_tree.proofs.leaf.leaf_after.Goals as goal
 
 pub returns-in-0 : goal.returns-in-0

@@ -1,7 +1,6 @@
-use Rattle.std.proofs.Common.{refl, subst, arith}
-use Rattle.cbor4ii_tree.specs.Inner.Valuing.{SimpleOf}
-use Rattle.cbor4ii_tree.proofs.values.Heads.{view-F16, view-F32, view-F64}
-use Rattle.cbor4ii_tree.proofs.values.Leaves.{float_ahead, simple_ahead, fresh_shown}
+use Rattle.std.proofs.Common.{refl, arith, rules}
+use Rattle.cbor4ii_tree.proofs.values.Heads.{view-F16, view-F32, view-F64, float_ahead}
+use Rattle.cbor4ii_tree.proofs.values.Heads.{simple_ahead, fresh_shown}
 use Rattle.cbor4ii_tree.proofs.leaf.simple_after.Goals as goal
 
 pub returns-in-249 : goal.returns-in-249
@@ -20,6 +19,4 @@ returns-in-251 c =
     refl c.in-251.is (view-F64 _)
 
 pub returns-in-Some : goal.returns-in-Some
-returns-in-Some c =
-    simple_ahead c.args.first c.args.number c.args.size c.args.trailing.now c.in-Some.value
-    (omega arith) (subst (SimpleOf c.args.first) c.in-Some.is c.simple_of.ensures)
+returns-in-Some c = search (rules, simple_ahead)

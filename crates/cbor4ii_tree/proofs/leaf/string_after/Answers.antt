@@ -1,8 +1,8 @@
-use Rattle.std.proofs.lemmas.{List.take_rest, Str.IsUtf8-string_bytes}
-use Rattle.std.proofs.Common.{◌∙◌, sym, ap, arith, take, string_bytes}
+use Rattle.std.proofs.{lemmas.List.take_rest, lemmas.Str.IsUtf8-string_bytes, Common.{◌∙◌, sym, ap}}
+use Rattle.std.proofs.Common.{arith, take, string_bytes}
 use Rattle.cbor4ii_items.specs.Initial.{byte_string, text_string}
-use Rattle.cbor4ii_tree.proofs.values.{InRange.{bytes_item_is, text_encoding}, Leaves.string_ahead}
-use Rattle.cbor4ii_tree.proofs.values.{Leaves.fresh_shown, Strings.{view-Bytes, view-Text}}
+use Rattle.cbor4ii_tree.proofs.values.InRange.{bytes_item_is, text_encoding}
+use Rattle.cbor4ii_tree.proofs.values.Heads.{string_ahead, fresh_shown, view-Bytes, view-Text}
 use Rattle.cbor4ii_tree.proofs.leaf.string_after.Goals as goal
 
 pub returns-in-Ok : goal.returns-in-Ok

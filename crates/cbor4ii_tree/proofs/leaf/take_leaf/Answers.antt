@@ -1,6 +1,6 @@
 use Rattle.std.proofs.Common.{arith, refl}
-use Rattle.cbor4ii_tree.proofs.values.{Asking.{in_content, not_wanted}, Gives.gives_err}
-use Rattle.cbor4ii_tree.proofs.values.Leaves.{takes_leaf, no_content, no_value}
+use Rattle.cbor4ii_tree.proofs.values.Sequences.{in_content, not_wanted, gives_err}
+use Rattle.cbor4ii_tree.proofs.values.Heads.{takes_leaf, no_content, no_leaf}
 use Rattle.cbor4ii_tree.proofs.leaf.take_leaf.Goals as goal
 
 pub returns-in-Ok-Whole : goal.returns-in-Ok-Whole
@@ -21,7 +21,7 @@ returns-in-Ok-NoMemory g c =
 
 pub returns-in-Ok-End : goal.returns-in-Ok-End
 returns-in-Ok-End g c =
-    rw c.leave_end.ensures (gives_err not_wanted (no_value _ (rw c.in-Ok-End.field-0-is at
+    rw c.leave_end.ensures (gives_err not_wanted (no_leaf _ (rw c.in-Ok-End.field-0-is at
     c.in-Ok-End.ensures.offers) refl))
 
 pub returns-in-Ok-Begins : goal.returns-in-Ok-Begins

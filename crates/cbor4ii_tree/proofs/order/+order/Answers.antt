@@ -1,23 +1,17 @@
-use Rattle.std.proofs.Common.{◌≡◌, length, sym, ap, ap₂, ◌∙◌, subst, subst₂, arith, rules}
+use Rattle.std.proofs.Common.{◌≡◌, length, ap, ◌∙◌, subst, subst₂, arith, rules}
 use Rattle.std.specs.declared.cmp.Ordering.TheVariants.{Equal}
 use Rattle.cbor4ii_items.specs.SequenceBytes.{items_bytes}
 use Rattle.cbor4ii_tree.specs.{Calls.Encoding.{value_bytes, value_pair_bytes}, Calls.Order.Compares}
-use Rattle.cbor4ii_tree.specs.{Basis.View.view, declared.value.Value.the_lemmas}
-use Rattle.cbor4ii_tree.proofs.encodings.Order.{heads_cmp, same_heads, other_heads, compares_then}
-use Rattle.cbor4ii_tree.proofs.values.Exact.{arrays, maps, compares_from}
+use Rattle.cbor4ii_tree.specs.{declared.value.Value.the_lemmas}
+use Rattle.cbor4ii_tree.proofs.encodings.Order.{same_heads, other_heads, compares_then}
+use Rattle.cbor4ii_tree.proofs.values.Encoding.{arrays, maps, compares_from}
 use Rattle.cbor4ii_tree.proofs.order.+order.Goals as goal
 
 pub cmp_values-returns-in-Equal : goal.cmp_values-returns-in-Equal
-cmp_values-returns-in-Equal t c =
-    same_heads (view c.args.a.now) (view c.args.b.now) c.cmp_after_heads.result
-    c.head_of.ensures.short c.head_of-2.ensures.short (sym (c.cmp.ensures ∙ ap₂ heads_cmp
-    c.head_of.ensures.parts c.head_of-2.ensures.parts) ∙ c.in-Equal.is) c.cmp_after_heads.ensures
+cmp_values-returns-in-Equal t c = search (rules, same_heads)
 
 pub cmp_values-returns-in_default : goal.cmp_values-returns-in_default
-cmp_values-returns-in_default t c =
-    other_heads (view c.args.a.now) (view c.args.b.now) c.cmp.result c.head_of.ensures.short
-    c.head_of-2.ensures.short (c.cmp.ensures ∙ ap₂ heads_cmp c.head_of.ensures.parts
-    c.head_of-2.ensures.parts) c.in_default.not-Equal
+cmp_values-returns-in_default t c = search (rules, other_heads)
 
 pub cmp_after_heads-cmp_items-requires : goal.cmp_after_heads-cmp_items-requires
 cmp_after_heads-cmp_items-requires t c =
@@ -32,10 +26,7 @@ cmp_after_heads-cmp_pairs-requires t c =
     (search (rules, the_lemmas), ap length c.deref-in-Map.ensures.value ∙ h.long)
 
 pub cmp_after_heads-returns-in-Array : goal.cmp_after_heads-returns-in-Array
-cmp_after_heads-returns-in-Array t c =
-    let h = arrays _ _ _ _ c.in-Array.is c.elements_of.ensures c.requires in
-    subst₂ (Compares c.cmp_items.result) (ap (items_bytes value_bytes)
-    c.deref-in-Array.ensures.value ∙ h.first) h.second c.cmp_items.ensures
+cmp_after_heads-returns-in-Array t c = search (rules, arrays, subst₂)
 
 pub cmp_after_heads-returns-in-Map : goal.cmp_after_heads-returns-in-Map
 cmp_after_heads-returns-in-Map t c =

@@ -1,4 +1,4 @@
-use Rattle.std.proofs.Common.{ap, sym, ◌∙◌}
+use Rattle.std.proofs.Common.{ap, sym, ◌∙◌, rules}
 use Rattle.cbor4ii_tree.specs.Calls.ItemEquality.{text_eq}
 use Rattle.cbor4ii_tree.proofs.raw_items.Keys.{text_in_chunks, text_other, text_sized, whole_head}
 use Rattle.cbor4ii_tree.proofs.raw_items.Keys.{pointwise_is, whole_some}
@@ -9,9 +9,7 @@ returns-in_default c = λ t l e.
     absurd (whole_some t _ _ l e c.split_head.ensures.head c.in_default.is)
 
 pub returns-then-head-ne-STRING : goal.returns-then-head-ne-STRING
-returns-then-head-ne-STRING c = λ t l e.
-    let h = whole_head t _ _ _ l e c.split_head.ensures.head c.in-Some.is in
-    sym (text_other _ t (λ m. c.if-head-ne-STRING.true (h.0 ∙ m)))
+returns-then-head-ne-STRING c = search (rules, whole_head, text_other)
 
 pub returns-in-Some-argument : goal.returns-in-Some-argument
 returns-in-Some-argument c = λ t l e.

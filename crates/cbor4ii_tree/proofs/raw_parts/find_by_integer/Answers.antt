@@ -1,7 +1,7 @@
 use Rattle.std.proofs.{Common.{Some, None, sym, subst, ◌∙◌}, lemmas.Int.to_z-of_z}
 use mir.Syntax.{w128}
 use Rattle.cbor4ii_tree.specs.Calls.RawParts.{Agrees, KeepsItem, first_value, means_integer}
-use Rattle.cbor4ii_tree.proofs.raw_items.Finding.{search_ends, search_finds, search_goes_on}
+use Rattle.cbor4ii_tree.proofs.raw_items.Keys.{search_ends, search_finds, search_goes_on}
 use Rattle.cbor4ii_tree.proofs.raw_parts.find_by_integer.Goals as goal
 
 pub returns-then-means_integer : goal.returns-then-means_integer

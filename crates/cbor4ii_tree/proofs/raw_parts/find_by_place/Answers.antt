@@ -1,5 +1,5 @@
 use Rattle.std.proofs.Common.{arith}
-use Rattle.cbor4ii_tree.proofs.raw_items.Finding.{count_finds, count_goes_on}
+use Rattle.cbor4ii_tree.proofs.raw_items.Keys.{count_finds, count_goes_on}
 use Rattle.cbor4ii_tree.proofs.raw_parts.find_by_place.Goals as goal
 
 pub loop-preserved : goal.loop-preserved

@@ -1,5 +1,5 @@
 use Rattle.cbor4ii_tree.specs.Calls.RawParts.{means_text, pair_bytes_left}
-use Rattle.cbor4ii_tree.proofs.raw_items.Finding.{Searches}
+use Rattle.cbor4ii_tree.proofs.raw_items.Keys.{Searches}
 use Rattle.cbor4ii_tree.proofs.raw_parts.find_by_text.Given as goal
 
 abbrev pub invariant-loop-name : goal.invariant-loop-name

@@ -1,20 +1,15 @@
-use Rattle.std.proofs.Common.{◌≡◌, ◌∷◌, [], length, length-append, ap, subst, refl, true, arith}
+use Rattle.std.proofs.Common.{rules, ◌≡◌, ◌∷◌, [], length, length-append, ap, subst, true, arith}
 use Rattle.std.proofs.lemmas.List.{take_rest}
 use Rattle.cbor4ii_tree.specs.Inner.Leaf.{StandsAhead}
-use Rattle.cbor4ii_tree.proofs.values.LeafRuns.{put_none, put_one, put_well, refused_growth}
+use Rattle.cbor4ii_tree.proofs.values.Sequences.{put_none, put_one, put_well, refused_growth}
 use Rattle.cbor4ii_tree.proofs.run.put_run.Goals as goal
 
 pub loop-alloc-init : goal.loop-alloc-init
-loop-alloc-init g c = record {
-  puts = put_none (g.A.Encodings.canonical ≡ true) (g.P.Parts.flat c.args.parts.now)
-      c.args.shown.now;
-  few = omega (arith, c.requires.lacks);
-  none = λ e. refl;
-}
+loop-alloc-init g c = search (rules, put_none)
 
 pub returns-then-is_none : goal.returns-then-is_none
 returns-then-is_none g c =
-    refused_growth _ _ _ _ _ _ _ c.loop-alloc.invariant.puts (subst (StandsAhead
+    refused_growth _ c.loop-alloc.invariant.puts (subst (StandsAhead
     (g.A.Encodings.canonical ≡ true) c.in-Whole.value c.in-Whole.bytes) (take_rest c.args.shown.now
     c.loop-alloc.size) c.in-Whole.ensures)
 
@@ -25,7 +20,7 @@ loop-alloc-preserved g c =
     (take_rest c.args.shown.now c.loop-alloc.size) c.in-Whole.ensures in
     record {
       puts =
-          put_one _ _ _ _ _ _ _ _ c.loop-alloc.invariant.puts l is;
+          put_one _ c.loop-alloc.invariant.puts l is;
       few =
           omega (
             arith,

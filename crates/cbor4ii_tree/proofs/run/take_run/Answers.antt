@@ -1,15 +1,16 @@
-use Rattle.std.proofs.Common.{refl, arith}
-use Rattle.cbor4ii_tree.proofs.values.LeafRuns.{takes_whole, takes_before, takes_none}
-use Rattle.cbor4ii_tree.proofs.values.LeafRuns.{run_no_memory, run_ends, run_broke, run_fails}
-use Rattle.cbor4ii_tree.proofs.values.LeafRuns.{after_are, still_are, none_lacks}
-use Rattle.cbor4ii_tree.proofs.values.{Asking.{not_wanted, run_asks}, Leaves.shown_can}
+use Rattle.std.proofs.Common.{refl, arith, ap, length}
+use Rattle.cbor4ii_tree.proofs.values.Sequences.{puts_taken, takes_before, takes_none}
+use Rattle.cbor4ii_tree.proofs.values.Sequences.{run_no_memory, run_ends, run_broke, run_fails}
+use Rattle.cbor4ii_tree.proofs.values.Sequences.{after_are, not_wanted}
+use Rattle.cbor4ii_tree.proofs.{values.Sequences.run_asks, values.Heads.shown_can}
 use Rattle.cbor4ii_tree.proofs.run.take_run.Goals as goal
 
 pub returns-in-Ok-Whole : goal.returns-in-Ok-Whole
 returns-in-Ok-Whole g c =
     let offers = rw c.in-Ok-Whole.field-0-is at c.in-Ok-Whole.ensures.offers in
     record {
-      puts = takes_whole _ _ _ _ _ offers c.advance.ensures;
+      puts = puts_taken _ _ _ _ offers.shows offers.prefix offers.is.puts
+          c.advance.ensures;
       memory = tt;
       items = after_are _ _ _ offers.is.puts;
       few = offers.is.few;
@@ -39,13 +40,12 @@ pub returns-in-Ok-Begins : goal.returns-in-Ok-Begins
 returns-in-Ok-Begins g c =
     let offers = rw c.in-Ok-Begins.field-0-is at c.in-Ok-Begins.ensures.offers in
     let puts = takes_none _ _ _ _ offers in
-    let lacks = none_lacks _ _ _ offers.is.0 c.requires in
     record {
       puts = puts;
       memory = tt;
-      items = still_are offers.is.0;
-      few = omega (arith, lacks);
-      lacks = lacks;
+      items = λ are. rw offers.is.0 are;
+      few = omega (arith, ap length offers.is.0, c.requires);
+      lacks = omega (arith, ap length offers.is.0, c.requires);
       progress = tt;
       bound = offers.shows.bound;
       can = shown_can _ _ _ _ puts.shows;

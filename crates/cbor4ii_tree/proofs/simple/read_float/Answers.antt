@@ -1,8 +1,9 @@
+use Rattle.std.proofs.Common.{rules}
 use Rattle.std.proofs.{Common.{arith, refl, w8}, Math.Facts.Fits-lt-pow}
 use Rattle.cbor4ii_items.specs.Initial.{half, single, double}
 use Rattle.cbor4ii_tree.proofs.values.Heads.{float_read, float_rejected, no_value, view-F16}
-use Rattle.cbor4ii_tree.proofs.{values.Heads.{view-F32, view-F64}, values.Asking.passed}
-use Rattle.cbor4ii_tree.proofs.{values.Asking.{not_wanted, passed_memory}, values.Gives.no_want}
+use Rattle.cbor4ii_tree.proofs.{values.Heads.{view-F32, view-F64}, values.Sequences.passed}
+use Rattle.cbor4ii_tree.proofs.values.Sequences.{not_wanted, passed_memory, no_want}
 use Rattle.cbor4ii_tree.proofs.simple.read_float.Goals as goal
 
 -- where encodings are free
@@ -50,14 +51,10 @@ returns-in_err-decode-in-249-clause-memory g c =
     passed_memory _ _ c.from_residual.ensures.1 (no_want c.in_err-decode-in-249.ensures.memory)
 
 pub returns-in_err-decode-in-250-clause-memory : goal.returns-in_err-decode-in-250-clause-memory
-returns-in_err-decode-in-250-clause-memory g c =
-    passed_memory _ _ c.from_residual-in_err-decode-in-250.ensures.1 (no_want
-    c.in_err-decode-in-250.ensures.memory)
+returns-in_err-decode-in-250-clause-memory g c = search (rules, passed_memory, no_want)
 
 pub returns-in_err-decode-in-251-clause-memory : goal.returns-in_err-decode-in-251-clause-memory
-returns-in_err-decode-in-251-clause-memory g c =
-    passed_memory _ _ c.from_residual-in_err-decode-in-251.ensures.1 (no_want
-    c.in_err-decode-in-251.ensures.memory)
+returns-in_err-decode-in-251-clause-memory g c = search (rules, passed_memory, no_want)
 
 pub returns-in_default-clause-memory : goal.returns-in_default-clause-memory
 returns-in_default-clause-memory g c = not_wanted

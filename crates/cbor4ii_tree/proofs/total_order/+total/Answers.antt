@@ -1,22 +1,18 @@
-use Rattle.std.proofs.Common.{◌≡◌, ◌≢◌, length, sym, ap, ap₂, ◌∙◌, subst, subst₂, arith, rules}
+use Rattle.std.proofs.Common.{◌≡◌, ◌≢◌, length, ap, ◌∙◌, subst, subst₂, arith, rules}
 use Rattle.std.specs.declared.cmp.Ordering.TheVariants.{Equal}
 use Rattle.cbor4ii_items.specs.SequenceBytes.{items_bytes}
 use Rattle.cbor4ii_tree.specs.{Calls.TotalOrder.{value_numbers, pair_numbers}, Calls.Order.Compares}
-use Rattle.cbor4ii_tree.specs.{Basis.View.view, declared.value.Value.the_lemmas}
-use Rattle.cbor4ii_tree.proofs.encodings.Order.{heads_cmp, compares_then}
-use Rattle.cbor4ii_tree.proofs.values.Exact.{exact_arrays, exact_maps, other_parts, same_parts}
-use Rattle.cbor4ii_tree.proofs.values.Exact.{compares_from, compares_here}
+use Rattle.cbor4ii_tree.specs.{declared.value.Value.the_lemmas}
+use Rattle.cbor4ii_tree.proofs.encodings.Order.{compares_then}
+use Rattle.cbor4ii_tree.proofs.values.Encoding.{exact_arrays, exact_maps, other_parts, same_parts}
+use Rattle.cbor4ii_tree.proofs.values.Encoding.{compares_from, compares_here}
 use Rattle.cbor4ii_tree.proofs.total_order.+total.Goals as goal
 
 pub total_cmp-returns-in-Equal : goal.total_cmp-returns-in-Equal
-total_cmp-returns-in-Equal t c =
-    same_parts (view c.args.a.now) (view c.args.b.now) c.cmp_inside.result (sym (c.cmp.ensures
-    ∙ ap₂ heads_cmp c.parts_of.ensures c.parts_of-2.ensures) ∙ c.in-Equal.is) c.cmp_inside.ensures
+total_cmp-returns-in-Equal t c = search (rules, same_parts)
 
 pub total_cmp-returns-in_default : goal.total_cmp-returns-in_default
-total_cmp-returns-in_default t c =
-    other_parts (view c.args.a.now) (view c.args.b.now) c.cmp.result (c.cmp.ensures
-    ∙ ap₂ heads_cmp c.parts_of.ensures c.parts_of-2.ensures) c.in_default.not-Equal
+total_cmp-returns-in_default t c = search (rules, other_parts)
 
 pub cmp_inside-cmp_items-requires : goal.cmp_inside-cmp_items-requires
 cmp_inside-cmp_items-requires t c =
@@ -31,10 +27,7 @@ cmp_inside-cmp_pairs-requires t c =
     (search (rules, the_lemmas), ap length c.deref-in-Map.ensures.value ∙ h.long)
 
 pub cmp_inside-returns-in-Array : goal.cmp_inside-returns-in-Array
-cmp_inside-returns-in-Array t c =
-    let h = exact_arrays _ _ _ _ c.in-Array.is c.elements_of.ensures c.requires in
-    subst₂ (Compares c.cmp_items.result) (ap (items_bytes value_numbers)
-    c.deref-in-Array.ensures.value ∙ h.first) h.second c.cmp_items.ensures
+cmp_inside-returns-in-Array t c = search (rules, exact_arrays, subst₂)
 
 pub cmp_inside-returns-in-Map : goal.cmp_inside-returns-in-Map
 cmp_inside-returns-in-Map t c =

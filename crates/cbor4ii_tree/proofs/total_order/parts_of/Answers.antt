@@ -1,17 +1,10 @@
-use Rattle.std.proofs.Common.{sym, ap, ◌∙◌, arith}
-use Rattle.cbor4ii_tree.specs.{Calls.TotalOrder.parts_of, Basis.View.view}
-use Rattle.cbor4ii_tree.proofs.{values.Encoding.view-Array, values.Views.view-Map}
-use Rattle.cbor4ii_tree.proofs.values.Views.{item_count-items_view, pair_count-pairs_view}
+use Rattle.std.proofs.Common.{rules}
+use Rattle.cbor4ii_tree.proofs.values.Encoding.{view-Array, view-Map, item_count-items_view}
+use Rattle.cbor4ii_tree.proofs.values.Encoding.{pair_count-pairs_view}
 use Rattle.cbor4ii_tree.proofs.total_order.parts_of.Goals as goal
 
 pub returns-in-Array : goal.returns-in-Array
-returns-in-Array c =
-    let v = c.in-Array.items in
-    ap (λ n. (9, n)) (omega (arith, c.len-in-Array.ensures, item_count-items_view v.items, v.ok))
-    ∙ sym (ap parts_of (ap view c.in-Array.is ∙ view-Array v))
+returns-in-Array c = search (rules, item_count-items_view, view-Array)
 
 pub returns-in-Map : goal.returns-in-Map
-returns-in-Map c =
-    let v = c.in-Map.pairs in
-    ap (λ n. (10, n)) (omega (arith, c.len-in-Map.ensures, pair_count-pairs_view v.items, v.ok))
-    ∙ sym (ap parts_of (ap view c.in-Map.is ∙ view-Map v))
+returns-in-Map c = search (rules, pair_count-pairs_view, view-Map)

@@ -1,6 +1,6 @@
 use Rattle.std.proofs.Common.{refl, sym, ◌∙◌, ap}
 use Rattle.cbor4ii_tree.specs.declared.skip.initial.Additional.TheVariants.{Wide}
-use Rattle.cbor4ii_tree.proofs.skip_calls.{Doing.{does_ok, reached_start}, Leading.first_argument}
+use Rattle.cbor4ii_tree.proofs.skip_calls.{Doing.{does_ok, reached_start}, Leaves.first_argument}
 use Rattle.cbor4ii_tree.proofs.unseen.argument.Goals as goal
 
 pub returns-in-Wide-eq0-clause-does : goal.returns-in-Wide-eq0-clause-does

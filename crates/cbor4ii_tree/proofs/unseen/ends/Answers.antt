@@ -1,5 +1,5 @@
 use Rattle.std.proofs.lemmas.Result.{err_from_is_err_and}
-use Rattle.cbor4ii_tree.proofs.skip_calls.Runs.{ends_cut, ends_later, ends_here}
+use Rattle.cbor4ii_tree.proofs.skip_calls.Deeper.{ends_cut, ends_later, ends_here}
 use Rattle.cbor4ii_tree.proofs.unseen.ends.Goals as goal
 
 pub returns-in_err-first-clause-does : goal.returns-in_err-first-clause-does

@@ -1,9 +1,10 @@
-use Rattle.std.proofs.{Common.{◌%◌, sym, ◌∙◌, subst}, lemmas.Result.err_from_is_err_and}
+use Rattle.std.proofs.Common.{◌%◌, refl, sym, ◌∙◌, subst}
+use Rattle.std.proofs.lemmas.Result.{err_from_is_err_and}
 use Rattle.cbor4ii_items.specs.Initial.{info_of}
 use Rattle.cbor4ii_tree.specs.{Basis.InputError.ignored_any, Inner.HeadParts.{CutBy, NoByte}}
-use Rattle.cbor4ii_tree.proofs.skip_calls.{Doing.still_rejected, Leading.{leads_bytes, bytes_cut}}
-use Rattle.cbor4ii_tree.proofs.skip_calls.{Leading.{no_first, goes}, Heads.{first_err, first_ok}}
+use Rattle.cbor4ii_tree.proofs.skip_calls.{Doing.still_rejected, Heads.{first_err, first_ok}}
 use Rattle.cbor4ii_tree.proofs.skip_calls.Heads.{first_taken, first_rejected, says_not}
+use Rattle.cbor4ii_tree.proofs.skip_calls.Leaves.{leads_bytes, bytes_cut, no_first, goes}
 use Rattle.cbor4ii_tree.proofs.unseen.skip_head.Goals as goal
 
 pub returns-in_err-first-clause-does : goal.returns-in_err-first-clause-does
@@ -25,7 +26,8 @@ returns-in_err-skip_bytes-clause-does g c =
     c.from_residual-in_err-skip_bytes.ensures.1 in
     rw (p.1, p.2) (first_err
     (first_taken c.in_ok-first.ensures.peeks _ c.take_first.ensures.takes none)
-    (λ bs e rest. bytes_cut c.in_ok-first.first c.in_ok-first.ensures.peeks.is.2 _ c.in-Bytes.count
+    (λ bs e rest. bytes_cut c.in_ok-first.first c.in_ok-first.ensures.peeks.is.2 _ _ refl
+    c.in-Bytes.count
     bs e rest (sym c.start_of-start.ensures ∙ c.in-Bytes.is)) c.in_err-skip_bytes.ensures.does)
 
 pub returns-in-Bytes-clause-does : goal.returns-in-Bytes-clause-does

@@ -1,6 +1,6 @@
 use Rattle.std.proofs.Common.{sym, ap, ◌∙◌}
 use Rattle.cbor4ii_tree.specs.{Basis.Item.{sequence, mapping}, Basis.View.view}
-use Rattle.cbor4ii_tree.proofs.{values.Encoding.view-Array, values.Views.view-Map}
+use Rattle.cbor4ii_tree.proofs.values.Encoding.{view-Array, view-Map}
 use Rattle.cbor4ii_tree.proofs.value.+copy.Goals as goal
 
 pub copy_value-returns-in-Null : goal.copy_value-returns-in-Null

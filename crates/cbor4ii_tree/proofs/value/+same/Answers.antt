@@ -1,35 +1,20 @@
-use Rattle.std.proofs.{Common.{◌<◌, arith, length, sym, ap, ◌∙◌, refl}, lemmas.List.take_more}
-use Rattle.cbor4ii_tree.specs.Basis.View.{view}
-use Rattle.cbor4ii_tree.proofs.values.Views.{length-items_view, length-pairs_view, view_at}
-use Rattle.cbor4ii_tree.proofs.values.Views.{items_view-push, views_at, pairs_more, mapping_same}
+use Rattle.std.proofs.Common.{rules}
+use Rattle.std.proofs.{Common.{◌<◌, arith, length, refl}, lemmas.List.take_more}
+use Rattle.cbor4ii_tree.proofs.values.Encoding.{length-items_view, length-pairs_view, view_at}
+use Rattle.cbor4ii_tree.proofs.values.Encoding.{items_view-push, views_at, pairs_more, mapping_same}
 use Rattle.cbor4ii_tree.proofs.value.+same.Goals as goal
 
 pub same_value-returns-in-Map-Map : goal.same_value-returns-in-Map-Map
-same_value-returns-in-Map-Map t c =
-    let m = mapping_same _ _ _ _ _ _ c.in-Map-Map.is-0 c.in-Map-Map.is-1
-    c.deref-in-Map-Map.ensures.value c.deref-in-Map-Map-2.ensures.value in
-    (λ h. m.0 (c.same_pairs.ensures.0 h), λ e. c.same_pairs.ensures.1 (m.1 e))
+same_value-returns-in-Map-Map t c = search (rules, mapping_same)
 
 pub same_items-returns-then-a-b : goal.same_items-returns-then-a-b
-same_items-returns-then-a-b t c =
-    let f = length-items_view c.args.a.now c.args.b.now in
-    (λ h. absurd (cc h), λ e. absurd (c.if-a-b.true (f e)))
+same_items-returns-then-a-b t c = search (rules, length-items_view)
 
 pub same_pairs-returns-then-a-b : goal.same_pairs-returns-then-a-b
-same_pairs-returns-then-a-b t c =
-    let f = length-pairs_view c.args.a.now c.args.b.now in
-    (λ h. absurd (cc h), λ e. absurd (c.if-a-b.true (f e)))
+same_pairs-returns-then-a-b t c = search (rules, length-pairs_view)
 
 pub same_items-returns-then-not-same_value : goal.same_items-returns-then-not-same_value
-same_items-returns-then-not-same_value t c =
-    let x = c.index-a-i.result in
-    let y = c.index-b-i.result in (
-      λ h. absurd (cc h),
-      λ e.
-          let at = view_at c.args.a.now c.args.b.now c.loop-i.i x y e c.loop-i-test.true in
-          c.if-not-same_value.ensures.1
-          (ap view c.index-a-i.is ∙ at ∙ sym (ap view c.index-b-i.is)),
-    )
+same_items-returns-then-not-same_value t c = search (rules, view_at)
 
 pub same_items-loop-i-preserved : goal.same_items-loop-i-preserved
 same_items-loop-i-preserved t c =
@@ -43,18 +28,10 @@ same_items-loop-i-preserved t c =
     ) (items_view-push _ _ x y c.loop-i.invariant (c.if-not-same_value.ensures.0 refl))
 
 pub same_pairs-returns-then-not-same_value : goal.same_pairs-returns-then-not-same_value
-same_pairs-returns-then-not-same_value t c = (
-  λ h. absurd (cc h),
-  λ e. c.if-not-same_value.ensures.1 (views_at c.args.a.now c.args.b.now
-      c.loop-i.i c.index-a-i.result c.index-b-i.result e c.loop-i-test.true).0,
-)
+same_pairs-returns-then-not-same_value t c = search (rules, views_at)
 
 pub same_pairs-returns-then-not-same_value-2 : goal.same_pairs-returns-then-not-same_value-2
-same_pairs-returns-then-not-same_value-2 t c = (
-  λ h. absurd (cc h),
-  λ e. c.if-not-same_value-2.ensures.1 (views_at c.args.a.now c.args.b.now c.loop-i.i
-      c.index-a-i-in-loop-i.result c.index-b-i-in-loop-i.result e c.loop-i-test.true).1,
-)
+same_pairs-returns-then-not-same_value-2 t c = search (rules, views_at)
 
 pub same_pairs-loop-i-preserved : goal.same_pairs-loop-i-preserved
 same_pairs-loop-i-preserved t c =

@@ -1,5 +1,5 @@
 use Rattle.std.proofs.Common.{◌≡◌, ℕ, List, Some, None, Option, Result, Ok, Err, refl, ap, ◌∙◌}
-use Rattle.std.proofs.Common.{drop, length, ◌++◌, sym, subst}
+use Rattle.std.proofs.Common.{drop, length, ◌++◌, sym, rules}
 use Rattle.std.proofs.Math.Seq.{drop-append_seam}
 use Rattle.std.specs.Prelude.{IfSome, IsTrue}
 use Rattle.cbor4ii_rw.specs.View.{View}
@@ -7,9 +7,8 @@ use Rattle.cbor4ii_rw.specs.declared.error.DecodeError.{DecodeError}
 use Rattle.cbor4ii_items.specs.Budget.{CostFits}
 use Rattle.cbor4ii_items.specs.Decoding.{IsExact, NoneRead}
 use Rattle.cbor4ii_items.specs.InputError.{input_error_of}
-use Rattle.cbor4ii_ser.specs.Item.{Encoding}
 use Rattle.cbor4ii.specs.CodecAgrees.{agreed_back}
-use Rattle.cbor4ii.specs.ReadBack.{IsReadBack, AnswersBack}
+use Rattle.cbor4ii.specs.ReadBack.{AnswersBack}
 use Rattle.cbor4ii.specs.Typed.{Promise, Deserializes}
 use Rattle.cbor4ii.proofs.serde.described.described_values_are_answered.Goals as goal
 
@@ -39,10 +38,4 @@ module _ {V E : Type 0} (promise : Promise V) (v : V) (bytes others : List ℕ) 
 
 pub returns : goal.returns
 returns g c alloc v bytes others old new answer stands written known over fits d =
-    let agrees = g.met.T.AsDescribed.agrees in
-    let promise = g.T.Typed.promise in
-    let cost = g.T.Described.codec.cost v in
-    answered promise v bytes others cost old new agrees.is over known fits
-    (subst (λ (item : Encoding). IsReadBack promise.format.reads item v cost) written
-    (agreed_back promise g.T.Serialize.encoding g.T.Described.codec agrees alloc v stands) others)
-    answer d
+    search (rules, answered, agreed_back)

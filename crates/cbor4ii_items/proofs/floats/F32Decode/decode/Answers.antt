@@ -1,16 +1,11 @@
 use Rattle.std.proofs.Common.{refl}
-use Rattle.std.proofs.lemmas.Result.{err_from_is_err_and}
-use Rattle.std.specs.Prelude.{codes}
-use Rattle.cbor4ii_items.specs.Laws.Calls.{by_ok, by_err}
-use Rattle.cbor4ii_items.specs.Floats.{float_format}
+use Rattle.cbor4ii_items.specs.Laws.Calls.{by_ok}
+use Rattle.cbor4ii_items.proofs.Passed.{by_passed}
 use Rattle.cbor4ii_items.proofs.floats.F32Decode.decode.Goals as goal
 
 pub returns-in_err-lone_float : goal.returns-in_err-lone_float
 returns-in_err-lone_float g c =
-    let p = err_from_is_err_and c.from_residual.result c.from_residual.ensures.1 in
-    rw (p.1, p.2) (by_err (λ v. v.0) (float_format (codes "f32") 0xfa 4)
-    c.in_err-lone_float.ensures.decodes)
+    by_passed _ _ _ c.from_residual.ensures.1 c.in_err-lone_float.ensures.decodes
 
 pub returns : goal.returns
-returns g c = by_ok (λ v. v.0) (float_format (codes "f32") 0xfa 4) refl
-    c.in_ok-lone_float.ensures.decodes
+returns g c = by_ok _ _ refl c.in_ok-lone_float.ensures.decodes

@@ -1,11 +1,11 @@
-use Rattle.std.proofs.lemmas.Result.{err_from_is_err_and}
+use Rattle.cbor4ii_items.proofs.Passed.{decodes_passed}
 use Rattle.cbor4ii_items.proofs.MaybeParts.{maybe_head_err, maybe_none, maybe_some, maybe_err}
 use Rattle.cbor4ii_items.proofs.maybe.MaybeOptionDecode.decode.Goals as goal
 
 pub returns-in_err-take_maybe_head : goal.returns-in_err-take_maybe_head
 returns-in_err-take_maybe_head g c =
-    let p = err_from_is_err_and c.from_residual.result c.from_residual.ensures.1 in
-    rw (p.1, p.2) (maybe_head_err g.T.Decodable.format c.in_err-take_maybe_head.ensures)
+    decodes_passed _ c.from_residual.ensures.1 (maybe_head_err g.T.Decodable.format
+    c.in_err-take_maybe_head.ensures)
 
 pub returns-then-not-branch : goal.returns-then-not-branch
 returns-then-not-branch g c =

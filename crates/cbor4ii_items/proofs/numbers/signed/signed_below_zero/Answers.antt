@@ -1,4 +1,4 @@
-use Rattle.std.proofs.Common.{[], arith}
+use Rattle.std.proofs.Common.{[], arith, rules}
 use Rattle.cbor4ii_items.proofs.WholeHeads.{found_some, found_none, runs_stayed, progress_stayed}
 use Rattle.cbor4ii_items.proofs.WholeHeads.{runs_broke}
 use Rattle.cbor4ii_items.proofs.SignedRuns.{minus_read, minus_rejected, negative_is}
@@ -32,7 +32,4 @@ pub returns-in-Err-clause-runs : goal.returns-in-Err-clause-runs
 returns-in-Err-clause-runs g c = runs_broke (c.in-Err.ensures.runs [])
 
 pub returns-else-argument-limit-clause-range : goal.returns-else-argument-limit-clause-range
-returns-else-argument-limit-clause-range g c =
-    let e = negative_is c.negative.result c.in-Ok-Some.argument
-    (omega (arith, c.if-argument-limit.false, c.requires)) c.negative.ensures in
-    rw e (omega (arith, c.if-argument-limit.false))
+returns-else-argument-limit-clause-range g c = search (rules, negative_is)

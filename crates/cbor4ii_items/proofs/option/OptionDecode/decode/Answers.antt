@@ -1,14 +1,11 @@
 use Rattle.std.proofs.Common.{rules, refl}
 use Rattle.cbor4ii_items.specs.Laws.Running.{kept_taken}
-use Rattle.std.proofs.lemmas.Result.{err_from_is_err_and}
+use Rattle.cbor4ii_items.proofs.Passed.{decodes_passed}
 use Rattle.cbor4ii_items.proofs.Containers.{option_end, option_some, option_err}
 use Rattle.cbor4ii_items.proofs.option.OptionDecode.decode.Goals as goal
 
 pub returns-in_err-first : goal.returns-in_err-first
-returns-in_err-first g c =
-    let p = err_from_is_err_and c.from_residual.result c.from_residual.ensures.1 in
-    rw (p.1, p.2) (option_end g.T.Decodable.format c.in_err-first.ensures.runs
-    c.in_err-first.ensures.memory)
+returns-in_err-first g c = search (rules, decodes_passed, option_end)
 
 pub returns-in-Ok : goal.returns-in-Ok
 returns-in-Ok g c =

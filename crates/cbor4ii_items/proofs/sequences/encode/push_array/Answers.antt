@@ -1,11 +1,5 @@
-use Rattle.std.proofs.lemmas.Result.{err_from_is_err_and}
-use Rattle.cbor4ii_items.specs.Laws.Written.{writes_then, writes_err}
+use Rattle.cbor4ii_items.specs.Laws.Written.{writes_then}
 use Rattle.cbor4ii_items.proofs.sequences.encode.push_array.Goals as goal
-
-pub returns-in_err-push_head : goal.returns-in_err-push_head
-returns-in_err-push_head g c =
-    let p = err_from_is_err_and c.from_residual.result c.from_residual.ensures.1 in
-    rw (p.1, p.2) (writes_err _ c.in_err-push_head.ensures.writes)
 
 pub returns : goal.returns
 returns g c = writes_then c.push_items.result c.in_ok-push_head.ensures.writes c.push_items.ensures

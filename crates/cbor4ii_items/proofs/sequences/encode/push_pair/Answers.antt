@@ -1,11 +1,10 @@
-use Rattle.std.proofs.lemmas.Result.{err_from_is_err_and}
-use Rattle.cbor4ii_items.specs.Laws.Written.{writes_then, writes_err}
+use Rattle.cbor4ii_items.specs.Laws.Written.{writes_then}
+use Rattle.cbor4ii_items.proofs.Passed.{writes_passed}
 use Rattle.cbor4ii_items.proofs.sequences.encode.push_pair.Goals as goal
-
-pub returns-in_err-encode : goal.returns-in_err-encode
-returns-in_err-encode g c =
-    let p = err_from_is_err_and c.from_residual.result c.from_residual.ensures.1 in
-    rw (p.1, p.2) (writes_err _ c.in_err-encode.ensures)
 
 pub returns : goal.returns
 returns g c = writes_then c.encode-2.result c.in_ok-encode.ensures c.encode-2.ensures
+
+pub returns-in_err-encode : goal.returns-in_err-encode
+returns-in_err-encode g c =
+    writes_passed _ _ c.from_residual.ensures.1 c.in_err-encode.ensures

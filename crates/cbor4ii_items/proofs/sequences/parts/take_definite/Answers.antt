@@ -1,5 +1,5 @@
 use Rattle.std.proofs.Common.{arith, refl, rules}
-use Rattle.std.proofs.lemmas.Result.{err_from_is_err_and}
+use Rattle.cbor4ii_items.proofs.Passed.{decodes_passed}
 use Rattle.cbor4ii_items.specs.Laws.Calls.{out_of_memory, of_exact, decodes_exactly}
 use Rattle.cbor4ii_items.specs.Laws.SequenceParts.{count_more, count_done, count_err}
 use Rattle.cbor4ii_items.specs.Laws.Steps.{kept_then}
@@ -8,10 +8,9 @@ use Rattle.cbor4ii_items.proofs.sequences.parts.take_definite.Goals as goal
 
 pub returns-in_err-part : goal.returns-in_err-part
 returns-in_err-part g c =
-    let p = err_from_is_err_and c.from_residual.result c.from_residual.ensures.1 in
-    rw (p.1, p.2) (decodes_exactly (count_err in_vector g.Q.Sequence.part
-    (λ is. g.met.Q.Sequence.lawful)
-    c.loop-i.invariant c.loop-i-test.true (of_exact c.in_err-part.ensures)))
+    decodes_passed _ c.from_residual.ensures.1 (decodes_exactly (count_err in_vector
+    g.Q.Sequence.part (λ is. g.met.Q.Sequence.lawful) c.loop-i.invariant c.loop-i-test.true
+    (of_exact c.in_err-part.ensures)))
 
 pub returns-in-Err : goal.returns-in-Err
 returns-in-Err g c =

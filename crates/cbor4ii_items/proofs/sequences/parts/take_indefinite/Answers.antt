@@ -2,8 +2,8 @@ use Rattle.std.proofs.Common.{refl, sym, rules}
 use Rattle.std.proofs.lemmas.Result.{err_from_is_err_and}
 use Rattle.cbor4ii_items.specs.Laws.Calls.{out_of_memory, of_exact, decodes_exactly}
 use Rattle.cbor4ii_items.specs.Laws.SequenceParts.{stands, indefinite_more, indefinite_done}
-use Rattle.cbor4ii_items.specs.Laws.SequenceParts.{indefinite_err}
-use Rattle.cbor4ii_items.specs.Laws.SequenceParts.{place_end, place_nothing, place_part}
+use Rattle.cbor4ii_items.specs.Laws.SequenceParts.{indefinite_err, place_end, place_nothing}
+use Rattle.cbor4ii_items.specs.Laws.SequenceParts.{place_part}
 use Rattle.cbor4ii_items.specs.Laws.Steps.{kept_then}
 use Rattle.cbor4ii_items.specs.Sequences.{indefinite_format, in_vector}
 use Rattle.cbor4ii_items.proofs.sequences.parts.take_indefinite.Goals as goal

@@ -1,20 +1,18 @@
 use Rattle.std.proofs.Common.{Ok, Err}
-use Rattle.std.proofs.lemmas.Result.{err_from_is_err_and}
+use Rattle.cbor4ii_items.proofs.Passed.{decodes_passed}
 use Rattle.cbor4ii_items.specs.Laws.Calls.{part_then, of_exact, decodes_exactly}
 use Rattle.cbor4ii_items.specs.Laws.SequenceHeads.{head_err, counts, opens}
-use Rattle.cbor4ii_items.specs.Sequences.{count_format, indefinite_format, inside_format}
-use Rattle.cbor4ii_items.specs.Sequences.{in_vector}
+use Rattle.cbor4ii_items.specs.Sequences.{count_format, indefinite_format, inside_format, in_vector}
 use Rattle.cbor4ii_items.proofs.Leaves.{decodes_of_runs}
 use Rattle.cbor4ii_items.proofs.Lengths.{length_leaf}
 use Rattle.cbor4ii_items.proofs.sequences.parts.take_inside.Goals as goal
 
 pub returns-in_err-count : goal.returns-in_err-count
 returns-in_err-count g c =
-    let p = err_from_is_err_and c.from_residual.result c.from_residual.ensures.1 in
-    rw (p.1, p.2) (decodes_exactly (head_err in_vector c.args.name.now c.args.major
-    g.Q.Sequence.part
-    c.requires (of_exact (decodes_of_runs (length_leaf c.args.name.now _ c.requires) (Err _)
-    c.in_err-count.ensures.runs c.in_err-count.ensures.memory tt))))
+    decodes_passed _ c.from_residual.ensures.1 (decodes_exactly (head_err in_vector c.args.name.now
+    c.args.major g.Q.Sequence.part c.requires (of_exact (decodes_of_runs (length_leaf
+    c.args.name.now _ c.requires) (Err _) c.in_err-count.ensures.runs c.in_err-count.ensures.memory
+    tt))))
 
 pub returns-in-Some : goal.returns-in-Some
 returns-in-Some g c =

@@ -2,15 +2,15 @@ use Rattle.std.proofs.Common.{ℕ, refl, ap, sym}
 use Rattle.std.specs.declared.vec.Vec.{Vec}
 use Rattle.std.specs.declared.alloc.Global.{Global}
 use Rattle.std.proofs.lemmas.Str.{IsUtf8-had}
-use Rattle.std.proofs.lemmas.Result.{err_from_is_err_and}
+use Rattle.cbor4ii_items.proofs.Passed.{decodes_passed}
 use Rattle.cbor4ii_items.specs.Strings.{text_content}
 use Rattle.cbor4ii_items.proofs.StringAnswers.{text_ok, text_err, utf8_err}
 use Rattle.cbor4ii_items.proofs.strings.content.take_text.Goals as goal
 
 pub returns-in_err-lone_string : goal.returns-in_err-lone_string
 returns-in_err-lone_string g c =
-    let p = err_from_is_err_and c.from_residual.result c.from_residual.ensures.1 in
-    rw (p.1, p.2) (text_err c.args.name.now text_content c.in_err-lone_string.ensures)
+    decodes_passed _ c.from_residual.ensures.1 (text_err c.args.name.now text_content
+    c.in_err-lone_string.ensures)
 
 pub returns-in-Ok : goal.returns-in-Ok
 returns-in-Ok g c =

@@ -1,12 +1,13 @@
-use Rattle.std.proofs.lemmas.Result.{err_from_is_err_and}
+use Rattle.std.proofs.Common.{rules}
+use Rattle.cbor4ii_items.proofs.Passed.{decodes_passed}
 use Rattle.cbor4ii_items.proofs.LentAnswers.{lent_head_err, lent_decodes, lent_place}
 use Rattle.cbor4ii_items.proofs.strings.lent.take_lent.Goals as goal
 
 pub returns-in_err-count-clause-decodes : goal.returns-in_err-count-clause-decodes
 returns-in_err-count-clause-decodes g c =
-    let p = err_from_is_err_and c.from_residual.result c.from_residual.ensures.1 in
-    rw (p.1, p.2) (lent_head_err g.T.Lend.name g.T.Lend.major g.T.Lend.is_text g.T.Lend.content
-    (rw (c.name.ensures, c.major.ensures.number) at c.in_err-count.ensures.decodes))
+    decodes_passed _ c.from_residual.ensures.1 (lent_head_err g.T.Lend.name g.T.Lend.major
+    g.T.Lend.is_text g.T.Lend.content (rw (c.name.ensures, c.major.ensures.number) at
+    c.in_err-count.ensures.decodes))
 
 pub returns-clause-decodes : goal.returns-clause-decodes
 returns-clause-decodes g c =
@@ -17,8 +18,4 @@ returns-clause-decodes g c =
     c.lend_from.ensures.lent c.lend_from.ensures.utf8 c.lend_from.ensures.lacks
 
 pub returns-clause-place : goal.returns-clause-place
-returns-clause-place g c =
-    lent_place _ _ _ _ g.T.Lend.is_text g.T.Lend.content _ _ _ g.T.Lend.major g.T.Lend.stands
-    c.lend_from.result c.named.result c.named.ensures
-    (rw c.major.ensures.number at c.in_ok-count.ensures.decodes.sound)
-    c.lend_from.ensures.place
+returns-clause-place g c = search (rules, lent_place)

@@ -1,12 +1,10 @@
-use Rattle.std.proofs.lemmas.Result.{err_from_is_err_and}
+use Rattle.std.proofs.Common.{rules}
+use Rattle.cbor4ii_items.proofs.Passed.{decodes_passed}
 use Rattle.cbor4ii_items.proofs.CowAnswers.{either_ok, either_err, other_err}
 use Rattle.cbor4ii_items.proofs.strings.lent_or_owned.take_cow.Goals as goal
 
 pub returns-in_err-value-clause-decodes : goal.returns-in_err-value-clause-decodes
-returns-in_err-value-clause-decodes g c =
-    let p = err_from_is_err_and c.from_residual.result c.from_residual.ensures.1 in
-    rw (p.1, p.2) (either_err g.T.LendOrOwn.name g.T.LendOrOwn.content _ _
-    g.met.T.LendOrOwn.text g.met.T.LendOrOwn.small c.in_err-value.ensures.takes.by)
+returns-in_err-value-clause-decodes g c = search (rules, decodes_passed, either_err)
 
 pub returns-in-Some-clause-decodes : goal.returns-in-Some-clause-decodes
 returns-in-Some-clause-decodes g c =

@@ -1,3 +1,4 @@
+use Rattle.std.proofs.Common.{rules}
 use Rattle.std.proofs.lemmas.Result.{err_from_is_err_and}
 use Rattle.cbor4ii_items.proofs.IndefiniteStrings.{string_chunks}
 use Rattle.cbor4ii_items.proofs.CowAnswers.{either_known, known_borrows, joined_owns}
@@ -15,10 +16,7 @@ returns-in-Some-clause-takes g c =
     c.in_ok-count.ensures.runs) c.in-Some.is c.lend_or_copy.ensures.takes
 
 pub returns-in-Some-clause-borrows : goal.returns-in-Some-clause-borrows
-returns-in-Some-clause-borrows g c =
-    known_borrows _ _ g.T.LendOrOwn.IsBorrowed g.T.LendOrOwn.IsOwned
-    (rw (c.name.ensures, c.major.ensures) at c.in_ok-count.ensures.runs) c.lend_or_copy.result
-    c.in-Some.is c.lend_or_copy.ensures.borrows
+returns-in-Some-clause-borrows g c = search (rules, known_borrows)
 
 pub returns-in_err-take_chunks-in-None-clause-takes :
     goal.returns-in_err-take_chunks-in-None-clause-takes

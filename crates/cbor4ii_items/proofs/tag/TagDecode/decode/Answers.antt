@@ -1,12 +1,12 @@
 use Rattle.std.proofs.Common.{refl}
-use Rattle.std.proofs.lemmas.Result.{err_from_is_err_and}
+use Rattle.cbor4ii_items.proofs.Passed.{decodes_passed}
 use Rattle.cbor4ii_items.proofs.Containers.{tag_head_err, tag_ok, tag_err}
 use Rattle.cbor4ii_items.proofs.tag.TagDecode.decode.Goals as goal
 
 pub returns-in_err-number : goal.returns-in_err-number
 returns-in_err-number g c =
-    let p = err_from_is_err_and c.from_residual.result c.from_residual.ensures.1 in
-    rw (p.1, p.2) (tag_head_err g.T.Decodable.format c.in_err-number.ensures.decodes)
+    decodes_passed _ c.from_residual.ensures.1 (tag_head_err g.T.Decodable.format
+    c.in_err-number.ensures.decodes)
 
 pub returns-in-Ok : goal.returns-in-Ok
 returns-in-Ok g c =

@@ -1,4 +1,4 @@
-use Rattle.std.proofs.Common.{◌≡◌, false, true, sym, ◌∙◌}
+use Rattle.std.proofs.Common.{◌≡◌, false, true, sym, ◌∙◌, rules}
 use Rattle.std.proofs.lemmas.Result.{err_from_is_err_and}
 use Rattle.cbor4ii_ser.specs.Laws.Joining.{serializes_then, serializes_out}
 use Rattle.cbor4ii_ser.proofs.collect.Collect.serialize_entry.Goals as goal
@@ -21,12 +21,10 @@ returns-in_err-serialize_key-clause-same_reference g c =
     c.in_err-serialize_key.ensures.same_reference
 
 pub returns-in_err-serialize_key-clause-owes : goal.returns-in_err-serialize_key-clause-owes
-returns-in_err-serialize_key-clause-owes g c =
-    rw (err_from_is_err_and c.from_residual.result c.from_residual.ensures.1).1 tt
+returns-in_err-serialize_key-clause-owes g c = search rules
 
 pub returns-in_err-serialize_key-clause-left : goal.returns-in_err-serialize_key-clause-left
-returns-in_err-serialize_key-clause-left g c =
-    rw (err_from_is_err_and c.from_residual.result c.from_residual.ensures.1).1 tt
+returns-in_err-serialize_key-clause-left g c = search rules
 
 pub returns-in_err-serialize_key-clause-rejected_at_key :
     goal.returns-in_err-serialize_key-clause-rejected_at_key
@@ -48,8 +46,7 @@ pub serialize_value-requires-clause-keyed : goal.serialize_value-requires-clause
 serialize_value-requires-clause-keyed g c = c.in_ok-serialize_key.ensures.keyed ∙ c.requires.keyed
 
 pub returns-clause-same_reference : goal.returns-clause-same_reference
-returns-clause-same_reference g c =
-    c.serialize_value.ensures.same_reference ∙ c.in_ok-serialize_key.ensures.same_reference
+returns-clause-same_reference g c = search rules
 
 pub returns-clause-keyed : goal.returns-clause-keyed
 returns-clause-keyed g c = c.serialize_value.ensures.keyed ∙ c.in_ok-serialize_key.ensures.keyed

@@ -5,11 +5,11 @@ use Rattle.cbor4ii_items.specs.{Numbers.RejectsNegative, Strings.{ReadsAs, Reads
 use Rattle.cbor4ii_items.specs.Strings.{RejectsString, RejectsText, bytes_content, text_content}
 use Rattle.cbor4ii_tree.specs.{Basis.InputError.{sign_name, kind_name}, declared.value.Value.Bytes}
 use Rattle.cbor4ii_tree.specs.declared.value.Value.{Text}
-use Rattle.cbor4ii_tree.proofs.{values.InRange.text_encoding, values.Strings.string_rejects}
-use Rattle.cbor4ii_tree.proofs.values.Strings.{text_rejects, bytes_reads, text_reads}
-use Rattle.cbor4ii_tree.proofs.{values.Calls.int_rejects, values.Heads.{leaf_read, leaf_rejected}}
-use Rattle.cbor4ii_tree.proofs.values.Heads.{negative_reads, unsigned_reads, head_at}
-use Rattle.cbor4ii_tree.proofs.{values.Asking.{passed, passed_memory}, values.Gives.no_want}
+use Rattle.cbor4ii_tree.proofs.{values.InRange.text_encoding, values.Heads.string_rejects}
+use Rattle.cbor4ii_tree.proofs.values.Heads.{text_rejects, bytes_reads, text_reads, int_rejects}
+use Rattle.cbor4ii_tree.proofs.values.Heads.{leaf_read, leaf_rejected, negative_reads}
+use Rattle.cbor4ii_tree.proofs.{values.Heads.{unsigned_reads, head_at}, values.Sequences.passed}
+use Rattle.cbor4ii_tree.proofs.values.Sequences.{passed_memory, no_want}
 use Rattle.cbor4ii_tree.proofs.any_encoding.AnyEncodingEncodings.read_leaf.Goals as goal
 
 pub returns-in_err-decode-in-0-clause-does : goal.returns-in_err-decode-in-0-clause-does

@@ -1,8 +1,8 @@
 use Rattle.std.proofs.Common.{◌≡◌, ◌∷◌, false, refl, subst, arith}
 use Rattle.cbor4ii_items.specs.Head.{indefinite_head}
 use Rattle.cbor4ii_tree.specs.Inner.Valuing.{RejectsMajor, TakesLength}
-use Rattle.cbor4ii_tree.proofs.{skip_calls.Doing.{does_ok, reached_as}, values.ByHead.after_first}
-use Rattle.cbor4ii_tree.proofs.{values.ByHead.taken_first, values.Gives.gives_as}
+use Rattle.cbor4ii_tree.proofs.{skip_calls.Doing.{does_ok, reached_as}, values.Heads.after_first}
+use Rattle.cbor4ii_tree.proofs.{values.Heads.taken_first, values.Sequences.gives_as}
 use Rattle.cbor4ii_tree.proofs.any_encoding.AnyEncodingEncodings.take_length.Goals as goal
 
 pub returns-then-first-major : goal.returns-then-first-major

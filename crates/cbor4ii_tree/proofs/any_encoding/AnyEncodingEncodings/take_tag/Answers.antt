@@ -1,5 +1,5 @@
 use Rattle.std.proofs.Common.{refl}
-use Rattle.cbor4ii_tree.proofs.values.{Gives.gives_none, Heads.tag_taken}
+use Rattle.cbor4ii_tree.proofs.{values.Sequences.gives_none, values.Heads.tag_taken}
 use Rattle.cbor4ii_tree.proofs.any_encoding.AnyEncodingEncodings.take_tag.Goals as goal
 
 pub returns : goal.returns

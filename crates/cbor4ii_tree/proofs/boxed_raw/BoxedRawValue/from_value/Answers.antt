@@ -1,6 +1,4 @@
-use Rattle.std.proofs.Common.{[], Some, ap, ◌∙◌, sym, subst}
-use Rattle.cbor4ii_tree.specs.Basis.Canonical.{canonical_cost, with_bignums}
-use Rattle.cbor4ii_tree.specs.{Basis.Encodings.Encodes, Basis.View.view}
+use Rattle.std.proofs.Common.{[], Some, ap, ◌∙◌, rules}
 use Rattle.cbor4ii_tree.proofs.boxed_raw.BoxedRawValue.from_value.Goals as goal
 
 pub returns-clause-content : goal.returns-clause-content
@@ -11,6 +9,4 @@ returns-clause-content c =
     cc
 
 pub returns-clause-encodes : goal.returns-clause-encodes
-returns-clause-encodes c =
-    subst (λ bs. Encodes bs (with_bignums (view c.args.value.now)) (canonical_cost
-    (view c.args.value.now))) (sym (returns-clause-content c)) c.in_ok-encode.ensures.encodes
+returns-clause-encodes c = search (rules, returns-clause-content)

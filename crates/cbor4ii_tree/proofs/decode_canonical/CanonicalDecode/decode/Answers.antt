@@ -1,10 +1,10 @@
 use Rattle.std.proofs.{Common.sym, lemmas.Result.err_from_is_err_and}
-use Rattle.cbor4ii_tree.proofs.canonical.Decoding.{canonical_ok, canonical_err, canonical_only}
-use Rattle.cbor4ii_tree.proofs.canonical.Decoding.{canonical_all, takes_encoding, canonical_every}
-use Rattle.cbor4ii_tree.proofs.canonical.Decoding.{canonical_prefix, canonical_exact, rejected_all}
-use Rattle.cbor4ii_tree.proofs.canonical.Decoding.{rejected_every, rejected_prefix, rejected_eof}
-use Rattle.cbor4ii_tree.proofs.canonical.Decoding.{rejected_depth, rejected_never, rejected_others}
-use Rattle.cbor4ii_tree.proofs.canonical.Decoding.{rejected_value, rejected_exact}
+use Rattle.cbor4ii_tree.proofs.canonical.Once.{canonical_ok, canonical_err, canonical_only}
+use Rattle.cbor4ii_tree.proofs.canonical.Once.{canonical_all, takes_encoding, canonical_every}
+use Rattle.cbor4ii_tree.proofs.canonical.Once.{canonical_prefix, canonical_exact, rejected_all}
+use Rattle.cbor4ii_tree.proofs.canonical.Once.{rejected_every, rejected_prefix, rejected_eof}
+use Rattle.cbor4ii_tree.proofs.canonical.Once.{rejected_depth, rejected_never, rejected_others}
+use Rattle.cbor4ii_tree.proofs.canonical.Once.{rejected_value, rejected_exact}
 use Rattle.cbor4ii_tree.proofs.decode_canonical.CanonicalDecode.decode.Goals as goal
 
 pub returns : goal.returns

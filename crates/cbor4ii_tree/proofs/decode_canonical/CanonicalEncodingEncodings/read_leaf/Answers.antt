@@ -1,16 +1,16 @@
 use Rattle.std.proofs.{lemmas.Str.IsUtf8-string_bytes, Common.{true, inl, inr, ◌/◌, ◌≡◌, arith}}
-use Rattle.std.proofs.Common.{sym, subst, drop}
+use Rattle.std.proofs.Common.{drop}
 use Rattle.cbor4ii_items.specs.{Initial.{unsigned, negative, byte_string}, Shortest.ReadsShortest}
 use Rattle.cbor4ii_items.specs.Shortest.{ReadsShortestString, RejectsShortest}
 use Rattle.cbor4ii_items.specs.Shortest.{RejectsShortestString}
-use Rattle.cbor4ii_tree.specs.{Inner.CanonicalCalls.TextAt, Inner.Valuing.RejectsUnder}
+use Rattle.cbor4ii_tree.specs.{Inner.CanonicalCalls.TextAt}
 use Rattle.cbor4ii_tree.specs.Calls.CanonicalRejects.{CanonicalTextRejects}
 use Rattle.cbor4ii_tree.specs.{Basis.InputError.{sign_name, kind_name}, declared.value.Value.Bytes}
-use Rattle.cbor4ii_tree.proofs.canonical.Decoding.{string_of, bytes_exact, text_exact}
+use Rattle.cbor4ii_tree.proofs.canonical.Once.{string_of, bytes_exact, text_exact}
 use Rattle.cbor4ii_tree.proofs.skip_calls.Doing.{does_ok, reached_as, reached_by, still_rejected}
 use Rattle.cbor4ii_tree.proofs.values.Heads.{at_major, head_at, leaf_read, leaf_rejected}
-use Rattle.cbor4ii_tree.proofs.{values.Heads.{negative_reads, unsigned_reads}, values.Asking.passed}
-use Rattle.cbor4ii_tree.proofs.{values.Asking.passed_memory, values.Gives.no_want}
+use Rattle.cbor4ii_tree.proofs.values.Heads.{negative_reads, unsigned_reads}
+use Rattle.cbor4ii_tree.proofs.values.Sequences.{passed, passed_memory, no_want}
 use Rattle.cbor4ii_tree.proofs.values.InRange.{text_encoding}
 use Rattle.cbor4ii_tree.proofs.decode_canonical.CanonicalEncodingEncodings.read_leaf.Goals as goal
 
@@ -43,9 +43,8 @@ returns-in_err-read_text-in_default-clause-does g c =
     let budget = (g.S.Source.view c.args.reader.now).budget in
     let major : c.args.first / 32 ≡ 3 = omega (arith, c.requires.major, c.in_default) in
     passed _ c.from_residual-in_err-read_text-in_default.ensures.1 (still_rejected _ _
-    (CanonicalTextRejects budget) _ (λ xs z rest h bs is. subst (λ x. RejectsUnder true budget x z
-    rest) (sym is) (at_major 3 _ _ _ _ _ major (subst (λ x. CanonicalTextRejects budget x z rest) is
-    h))) c.in_err-read_text-in_default.ensures.does)
+    (CanonicalTextRejects budget) _ (λ xs z rest h bs is. rw is (at_major 3 _ _ _ _ _ major (rw (←
+    is) h))) c.in_err-read_text-in_default.ensures.does)
 
 pub returns-in_ok-canonical_head-in-0-clause-does :
     goal.returns-in_ok-canonical_head-in-0-clause-does

@@ -1,7 +1,7 @@
 use Rattle.std.proofs.Common.{true, false, refl}
 use Rattle.cbor4ii_tree.specs.Inner.Valuing.{RejectsMajor, TakesLength}
-use Rattle.cbor4ii_tree.proofs.{canonical.Decoding.reached_shortest, skip_calls.Doing.does_ok}
-use Rattle.cbor4ii_tree.proofs.{values.ByHead.after_first, values.Gives.{gives_err, no_want}}
+use Rattle.cbor4ii_tree.proofs.{canonical.Once.reached_shortest, skip_calls.Doing.does_ok}
+use Rattle.cbor4ii_tree.proofs.{values.Heads.after_first, values.Sequences.{gives_err, no_want}}
 use Rattle.cbor4ii_tree.proofs.values.Sequences.{is_map, shortest_rejected}
 use Rattle.cbor4ii_tree.proofs.decode_canonical.CanonicalEncodingEncodings.take_length.Goals as goal
 

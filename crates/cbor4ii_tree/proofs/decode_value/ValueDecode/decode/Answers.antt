@@ -1,7 +1,7 @@
 use Rattle.cbor4ii_tree.proofs.answers.Promises.{only_reads, all_reads, prefix_reads, eof_reads}
 use Rattle.cbor4ii_tree.proofs.answers.Promises.{depth_reads, final_reads, others_reads, size_reads}
 use Rattle.cbor4ii_tree.proofs.answers.Promises.{exact_reads, skips_reads, canonical_reads}
-use Rattle.cbor4ii_tree.proofs.{values.Gives.gives_fall, values.Decoding.value_decodes}
+use Rattle.cbor4ii_tree.proofs.{answers.Promises.value_decodes, values.Sequences.gives_fall}
 use Rattle.cbor4ii_tree.proofs.decode_value.ValueDecode.decode.Goals as goal
 
 pub returns : goal.returns

@@ -1,3 +1,4 @@
+use Rattle.std.proofs.Common.{rules}
 use Rattle.std.proofs.{Common.refl, lemmas.Result.on_ok_weaker}
 use Rattle.cbor4ii_tree.specs.{Basis.Canonical.{canonical_encoding, canonical_cost}}
 use Rattle.cbor4ii_tree.specs.{Basis.View.view}
@@ -5,9 +6,7 @@ use Rattle.cbor4ii_tree.proofs.encodings.CanonicalShape.{written_canonically}
 use Rattle.cbor4ii_tree.proofs.encode_canonical.CanonicalEncode.encode.Goals as goal
 
 pub returns-clause-encodes : goal.returns-clause-encodes
-returns-clause-encodes g c =
-    on_ok_weaker c.encode.result (written_canonically (view c.args.self.now.0))
-    c.encode.ensures.item
+returns-clause-encodes g c = search (rules, on_ok_weaker, written_canonically)
 
 pub returns-clause-reads_back : goal.returns-clause-reads_back
 returns-clause-reads_back g c =

@@ -1,7 +1,7 @@
 use Rattle.std.proofs.Common.{rules, Ok, Err}
 use Rattle.cbor4ii_tree.proofs.answers.Promises.{all_skips, prefix_skips, eof_skips, depth_skips}
 use Rattle.cbor4ii_tree.proofs.answers.Promises.{final_skips, others_skips, exact_skips}
-use Rattle.cbor4ii_tree.proofs.skip_calls.Ignoring.{ignored_ok, ignored_err}
+use Rattle.cbor4ii_tree.proofs.skip_calls.Deeper.{ignored_ok, ignored_err}
 use Rattle.cbor4ii_tree.proofs.ignored.IgnoredAnyDecode.decode.Goals as goal
 
 pub returns-in-Ok-clause-decodes : goal.returns-in-Ok-clause-decodes

@@ -1,8 +1,8 @@
-use Rattle.std.proofs.Common.{◌≡◌, Ok, refl, length, ap}
+use Rattle.std.proofs.Common.{◌≡◌, Ok, refl, length, ap, rules}
 use Rattle.cbor4ii_rw.specs.Slice.{slice_view}
 use Rattle.cbor4ii_items.specs.Laws.Wholes.{trails, to_the_end, none_whole, whole_of, rejected}
 use Rattle.cbor4ii_tree.specs.{Laws.Capturing.raw_lawful, Calls.Raw.{raw_content, raw_format}}
-use Rattle.cbor4ii_tree.specs.Calls.Raw.{raw_place, ReadsRaw}
+use Rattle.cbor4ii_tree.specs.Calls.Raw.{ReadsRaw}
 use Rattle.cbor4ii_tree.proofs.raw_items.Captured.{raw_decodes, begins_slice}
 use Rattle.cbor4ii_tree.proofs.raw.RawValue.new.Goals as goal
 
@@ -42,6 +42,4 @@ returns-clause-whole c = record {
 }
 
 pub returns-clause-place : goal.returns-clause-place
-returns-clause-place c =
-    begins_slice c.args.bytes (raw_place c.in_ok-raw.raw) (slice_view c.new-reader.result)
-    c.new-reader.ensures.known c.new-reader.ensures.place c.in_ok-raw.ensures.place
+returns-clause-place c = search (rules, begins_slice)

@@ -1,4 +1,4 @@
-use Rattle.cbor4ii_tree.proofs.raw_items.Walks.{items_end}
+use Rattle.cbor4ii_tree.proofs.raw_items.Keys.{items_end}
 use Rattle.cbor4ii_tree.proofs.raw_parts.RawItemsIterator.next.Goals as goal
 
 pub returns-in_err-left-clause-steps : goal.returns-in_err-left-clause-steps

@@ -1,4 +1,4 @@
-use Rattle.cbor4ii_tree.proofs.raw_items.Walks.{pairs_end}
+use Rattle.cbor4ii_tree.proofs.raw_items.Keys.{pairs_end}
 use Rattle.cbor4ii_tree.proofs.raw_parts.RawPairsIterator.next.Goals as goal
 
 pub returns-in_err-left-clause-steps : goal.returns-in_err-left-clause-steps

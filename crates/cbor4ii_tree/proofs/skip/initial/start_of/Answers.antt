@@ -1,5 +1,5 @@
 use Rattle.std.proofs.Common.{◌≡◌, ℕ, zero, suc, ◌+◌, ◌-◌, ◌<◌, ◌/◌, ◌%◌, refl, sym, ap, ◌∙◌, subst}
-use Rattle.std.proofs.Common.{arith}
+use Rattle.std.proofs.Common.{arith, rules}
 use Rattle.cbor4ii_items.specs.Initial.{Info, wide, info_of, int_by_info, string_by_info, Sign}
 use Rattle.cbor4ii_items.specs.Initial.{unsigned, negative, Kind, byte_string, text_string}
 use Rattle.cbor4ii_items.specs.Initial.{simple_by_info, by_major, initial}
@@ -51,9 +51,4 @@ returns-in-Wide-info-4 c =
     c.in-Wide-info-4.ensures) ∙ ap start_of (sym (by_parts c.args.first))
 
 pub returns-in-20 : goal.returns-in-20
-returns-in-20 c =
-    let major : 7 ≡ c.args.first / 32 = omega arith in
-    let info : 20 + (c.args.first % 32 - 20) ≡ c.args.first % 32 = omega arith in
-    subst (λ i. Bytes 0 ≡ start_of (by_major 7 i)) info (simple_starts (c.args.first % 32 - 20)
-    (omega arith)) ∙ ap (λ m. start_of (by_major m (c.args.first % 32))) major
-    ∙ ap start_of (sym (by_parts c.args.first))
+returns-in-20 c = search (rules, simple_starts, by_parts)

@@ -1,22 +1,23 @@
 use Rattle.cbor4ii_tree.specs.Inner.{Ahead.{in_map, NeverRejects, RejectsSome}, Skipping.SkipsItems}
 use Rattle.cbor4ii_tree.specs.Inner.Skipping.{SkipsIndefinite, SkipsPairs}
-use Rattle.cbor4ii_tree.proofs.skip_calls.Parts.{keyed_none, keyed_turned, keyed_kept, keyed_done}
-use Rattle.cbor4ii_tree.proofs.skip_calls.Parts.{keyed_stop, each_none, each_join, indefinite_stop}
-use Rattle.cbor4ii_tree.proofs.skip_calls.{Parts.indefinite_done, Runs.{twice, once, counts_none}}
-use Rattle.cbor4ii_tree.proofs.skip_calls.Runs.{broke, went_on, ended, cut, unseen, ran, past, into}
-use Rattle.cbor4ii_tree.proofs.skip_calls.Runs.{none_left, without_step, stepped, some_of, break_of}
-use Rattle.cbor4ii_tree.proofs.skip_calls.Runs.{goes_on, was_past, went_into, headed, after_nothing}
+use Rattle.cbor4ii_tree.specs.declared.skip.items.Went.TheVariants.{Past}
+use Rattle.cbor4ii_tree.proofs.skip_calls.Deeper.{twice, once, counts_none, broke, went_on, ended}
+use Rattle.cbor4ii_tree.proofs.skip_calls.Deeper.{cut, unseen, ran, past, into, none_left}
+use Rattle.cbor4ii_tree.proofs.skip_calls.Deeper.{without_step, stepped, some_of, break_of, goes_on}
+use Rattle.cbor4ii_tree.proofs.skip_calls.Deeper.{was_past, went_into, headed, after_nothing}
+use Rattle.cbor4ii_tree.proofs.skip_calls.Deeper.{deeper_none, all_back, does_back, gone_into, gone}
+use Rattle.cbor4ii_tree.proofs.skip_calls.Deeper.{gone_without, gone_on, gone_no_further, all_gone}
 use Rattle.cbor4ii_tree.proofs.skip_calls.Doing.{reached_start, reached_on, reached_then, does_ok}
 use Rattle.cbor4ii_tree.proofs.skip_calls.Doing.{does_value, stops_on, refused, still_rejected}
 use Rattle.cbor4ii_tree.proofs.skip_calls.Doing.{alike, stays_then, stays_put, apart_leaf}
 use Rattle.cbor4ii_tree.proofs.skip_calls.Doing.{apart_value, apart_with, apart_on, apart_gains}
-use Rattle.cbor4ii_tree.proofs.skip_calls.{Doing.{may_stay, lowered}, Deeper.deeper_none}
-use Rattle.cbor4ii_tree.proofs.skip_calls.Deeper.{all_back, does_back, gone_into, gone}
-use Rattle.cbor4ii_tree.proofs.skip_calls.Deeper.{gone_without, gone_on, gone_no_further, all_gone}
+use Rattle.cbor4ii_tree.proofs.skip_calls.{Doing.{may_stay, lowered}, Parts.keyed_none}
+use Rattle.cbor4ii_tree.proofs.skip_calls.Parts.{keyed_turned, keyed_kept, keyed_done, keyed_stop}
+use Rattle.cbor4ii_tree.proofs.skip_calls.Parts.{each_none, each_join, indefinite_stop}
+use Rattle.cbor4ii_tree.proofs.skip_calls.Parts.{indefinite_done}
 use Rattle.std.proofs.Common.{refl, ◌∙◌, arith, rules}
-use Rattle.cbor4ii_tree.specs.declared.skip.items.Went.TheVariants.{Past}
-use Rattle.cbor4ii_tree.specs.declared.ahead.Among.TheVariants as among
 use Rattle.cbor4ii_tree.proofs.skip.items.+skip.Goals as goal
+use Rattle.cbor4ii_tree.specs.declared.ahead.Among.TheVariants as among
 
 pub skip_some-skip_without_step-requires-clause-no_step :
     goal.skip_some-skip_without_step-requires-clause-no_step
@@ -101,9 +102,7 @@ skip_after-returns-in-Nothing g t c =
     (apart_leaf (does_ok _ _ (reached_start _ _ (λ xs. refl))) tt tt (λ _. refl))
 
 pub skip_after-returns-in-Bytes : goal.skip_after-returns-in-Bytes
-skip_after-returns-in-Bytes g t c =
-    goes_on c.in-Bytes.is (apart_leaf c.skip_content.ensures.does c.skip_content.ensures.spares
-    (may_stay _) c.skip_content.ensures.stays)
+skip_after-returns-in-Bytes g t c = search (rules, goes_on, apart_leaf, may_stay)
 
 pub skip_after-returns-in-Items : goal.skip_after-returns-in-Items
 skip_after-returns-in-Items g t c = goes_on c.in-Items.is c.skip_items.ensures
@@ -215,10 +214,7 @@ skip_next-returns-in-None-clause-skips g t c =
     c.step_out-in-None.ensures.budget c.step_out-in-None.ensures.others)
 
 pub skip_indefinite-loop-init : goal.skip_indefinite-loop-init
-skip_indefinite-loop-init g t c = record {
-  reached = reached_start _ _ (each_none _);
-  stays = stays_put;
-}
+skip_indefinite-loop-init g t c = search (rules, reached_start, each_none, stays_put)
 
 pub skip_indefinite-returns-in-None : goal.skip_indefinite-returns-in-None
 skip_indefinite-returns-in-None g t c =

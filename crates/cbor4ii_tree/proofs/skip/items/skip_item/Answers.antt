@@ -1,4 +1,4 @@
-use Rattle.cbor4ii_tree.proofs.skip_calls.{Doing.refused, Runs.one_done}
+use Rattle.cbor4ii_tree.proofs.skip_calls.{Deeper.one_done, Doing.refused}
 use Rattle.cbor4ii_tree.proofs.skip.items.skip_item.Goals as goal
 
 pub returns-in-Some-clause-does : goal.returns-in-Some-clause-does

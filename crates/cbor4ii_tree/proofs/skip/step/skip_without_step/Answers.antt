@@ -1,6 +1,6 @@
 use Rattle.std.proofs.Common.{Some, refl}
-use Rattle.cbor4ii_tree.proofs.skip_calls.{Doing.{apart_leaf, does_value}, Runs.counts_none}
-use Rattle.cbor4ii_tree.proofs.skip_calls.Runs.{ended, cut, rejected_none}
+use Rattle.cbor4ii_tree.proofs.skip_calls.Deeper.{counts_none, ended, cut, rejected_none}
+use Rattle.cbor4ii_tree.proofs.skip_calls.Doing.{apart_leaf, does_value}
 use Rattle.cbor4ii_tree.proofs.skip.step.skip_without_step.Goals as goal
 
 pub returns-in-None : goal.returns-in-None

@@ -12,23 +12,22 @@ use Rattle.cbor4ii_items.specs.Laws.SequenceParts.{indefinite_more, indefinite_d
 use Rattle.cbor4ii_items.specs.Laws.SequenceParts.{place_end}
 use Rattle.cbor4ii_items.specs.Laws.SequenceParts.{place_part}
 use Rattle.cbor4ii_items.specs.Sequences.{count_format, indefinite_format}
-use Rattle.cbor4ii.specs.AnyFormat.{any_format, any_inside, kind_format, values_inside}
+use Rattle.cbor4ii.specs.AnyFormat.{any_format, any_inside, values_inside}
 use Rattle.cbor4ii.specs.AnyFormat.{values_format, any_pair, pairs_inside, pairs_format}
 use Rattle.cbor4ii.specs.declared.serde.de.any_leaf.AnyKind.TheVariants.{Leaf, Array, Map}
 use Rattle.cbor4ii.specs.Any.{of_array, of_map}
 use Rattle.cbor4ii.specs.Sequence.{four_small, five_small}
 use Rattle.cbor4ii.specs.Typed.{answer_of}
-use Rattle.cbor4ii.proofs.AnyAnswers.{any_lawful, pair_is_lawful, as_ok, as_err, an_array, a_map}
+use Rattle.cbor4ii.proofs.AnyAnswers.{any_lawful, pair_is_lawful, formed}
 use Rattle.cbor4ii.proofs.AnyAnswers.{any_of, of_kind, of_other, of_end}
+use Rattle.cbor4ii.proofs.Forms.{as_read}
 use Rattle.cbor4ii.proofs.Looking.{saw}
 use Rattle.cbor4ii_items.specs.Laws.SequenceHeads.{head_err, counts, opens}
 use Rattle.cbor4ii.proofs.Steps.{no_step_left, under}
 use Rattle.cbor4ii.proofs.serde.de.any.+any.Goals as goal
 
 pub read_any-returns-then-not-step_in : goal.read_any-returns-then-not-step_in
-read_any-returns-then-not-step_in g t c =
-    any_of (Err _) (no_step_left any_inside _ (search rules) c.if-not-step_in.ensures.budget
-    c.step_in.ensures.others)
+read_any-returns-then-not-step_in g t c = search (rules, any_of, no_step_left)
 
 pub read_any-returns : goal.read_any-returns
 read_any-returns g t c =
@@ -53,25 +52,29 @@ pub any_inside-returns-in-Ok-any_array : goal.any_inside-returns-in-Ok-any_array
 any_inside-returns-in-Ok-any_array g t c =
     let d = c.in-Ok.ensures.decodes in
     of_kind Array d.moves.by (saw d.moves d.sound) c.in-Array.ensures (Ok _)
-    (as_ok values_format (kind_format Array) of_array an_array c.in-Ok-any_array.ensures)
+    (decodes_exactly
+    (as_read (formed of_array values_format) (Ok _) (of_exact c.in-Ok-any_array.ensures)))
 
 pub any_inside-returns-in-Err-any_array : goal.any_inside-returns-in-Err-any_array
 any_inside-returns-in-Err-any_array g t c =
     let d = c.in-Ok.ensures.decodes in
     of_kind Array d.moves.by (saw d.moves d.sound) c.in-Array.ensures (Err _)
-    (as_err values_format (kind_format Array) of_array an_array c.in-Err-any_array.ensures)
+    (decodes_exactly
+    (as_read (formed of_array values_format) (Err _) (of_exact c.in-Err-any_array.ensures)))
 
 pub any_inside-returns-in-Ok-any_map : goal.any_inside-returns-in-Ok-any_map
 any_inside-returns-in-Ok-any_map g t c =
     let d = c.in-Ok.ensures.decodes in
     of_kind Map d.moves.by (saw d.moves d.sound) c.in-Map.ensures (Ok _)
-    (as_ok pairs_format (kind_format Map) of_map a_map c.in-Ok-any_map.ensures)
+    (decodes_exactly
+    (as_read (formed of_map pairs_format) (Ok _) (of_exact c.in-Ok-any_map.ensures)))
 
 pub any_inside-returns-in-Err-any_map : goal.any_inside-returns-in-Err-any_map
 any_inside-returns-in-Err-any_map g t c =
     let d = c.in-Ok.ensures.decodes in
     of_kind Map d.moves.by (saw d.moves d.sound) c.in-Map.ensures (Err _)
-    (as_err pairs_format (kind_format Map) of_map a_map c.in-Err-any_map.ensures)
+    (decodes_exactly
+    (as_read (formed of_map pairs_format) (Err _) (of_exact c.in-Err-any_map.ensures)))
 
 pub any_inside-returns-in-Other : goal.any_inside-returns-in-Other
 any_inside-returns-in-Other g t c =
@@ -81,9 +84,7 @@ any_inside-returns-in-Other g t c =
 -- ---- arrays
 
 pub any_array-returns-then-not-step_in : goal.any_array-returns-then-not-step_in
-any_array-returns-then-not-step_in g t c =
-    no_step_left values_inside _ (search rules) c.if-not-step_in.ensures.budget
-    c.step_in.ensures.others
+any_array-returns-then-not-step_in g t c = search (rules, no_step_left)
 
 pub any_array-returns : goal.any_array-returns
 any_array-returns g t c =
@@ -163,12 +164,7 @@ indefinite_values-loop-values-preserved g t c =
     c.in_ok-add_value.ensures.added
 
 pub indefinite_values-loop-values-smaller : goal.indefinite_values-loop-values-smaller
-indefinite_values-loop-values-smaller g t c =
-    omega (
-      arith,
-      c.in_ok-add_value.ensures.read.progress refl,
-      c.in_ok-takes_break.ensures.runs.moves.by.bound,
-    )
+indefinite_values-loop-values-smaller g t c = search rules
 
 pub indefinite_values-returns : goal.indefinite_values-returns
 indefinite_values-returns g t c =
@@ -177,27 +173,19 @@ indefinite_values-returns g t c =
     c.in_ok-takes_break.ensures.runs
 
 pub add_value-returns-in_err-value : goal.add_value-returns-in_err-value
-add_value-returns-in_err-value g t c =
-    let p = err_from_is_err_and c.from_residual.result c.from_residual.ensures.1 in
-    rw (p.1, p.2) c.in_err-value.ensures
+add_value-returns-in_err-value g t c = search (rules, err_from_is_err_and)
 
 pub add_value-returns-then-not-keep : goal.add_value-returns-then-not-keep
 add_value-returns-then-not-keep g t c = out_of_memory any_format refl
     c.in_ok-value.ensures.moves.by
 
 pub add_value-returns : goal.add_value-returns
-add_value-returns g t c = record {
-  part = _;
-  read = c.in_ok-value.ensures;
-  added = search rules;
-}
+add_value-returns g t c = search rules
 
 -- ---- maps
 
 pub any_map-returns-then-not-step_in : goal.any_map-returns-then-not-step_in
-any_map-returns-then-not-step_in g t c =
-    no_step_left pairs_inside _ (search rules) c.if-not-step_in.ensures.budget
-    c.step_in.ensures.others
+any_map-returns-then-not-step_in g t c = search (rules, no_step_left)
 
 pub any_map-returns : goal.any_map-returns
 any_map-returns g t c =
@@ -277,12 +265,7 @@ indefinite_pairs-loop-pairs-preserved g t c =
     c.in_ok-add_pair.ensures.added
 
 pub indefinite_pairs-loop-pairs-smaller : goal.indefinite_pairs-loop-pairs-smaller
-indefinite_pairs-loop-pairs-smaller g t c =
-    omega (
-      arith,
-      c.in_ok-add_pair.ensures.read.progress refl,
-      c.in_ok-takes_break.ensures.runs.moves.by.bound,
-    )
+indefinite_pairs-loop-pairs-smaller g t c = search rules
 
 pub indefinite_pairs-returns : goal.indefinite_pairs-returns
 indefinite_pairs-returns g t c =
@@ -290,9 +273,7 @@ indefinite_pairs-returns g t c =
     c.in_ok-takes_break.ensures.runs
 
 pub add_pair-returns-in_err-pair : goal.add_pair-returns-in_err-pair
-add_pair-returns-in_err-pair g t c =
-    let p = err_from_is_err_and c.from_residual.result c.from_residual.ensures.1 in
-    rw (p.1, p.2) c.in_err-pair.ensures
+add_pair-returns-in_err-pair g t c = search (rules, err_from_is_err_and)
 
 pub add_pair-returns-then-not-keep : goal.add_pair-returns-then-not-keep
 add_pair-returns-then-not-keep g t c = out_of_memory any_pair refl c.in_ok-pair.ensures.moves.by

@@ -1,15 +1,15 @@
-use Rattle.cbor4ii.specs.AnyFormat.{formed_format}
-use Rattle.cbor4ii.proofs.AnyAnswers.{formed, as_ok, as_err}
+use Rattle.std.proofs.Common.{Ok, Err}
+use Rattle.cbor4ii_items.specs.Laws.Calls.{of_exact, decodes_exactly}
+use Rattle.cbor4ii.proofs.AnyAnswers.{formed}
+use Rattle.cbor4ii.proofs.Forms.{as_read}
 use Rattle.cbor4ii.proofs.serde.de.any_leaf.take_as.Goals as goal
 
 pub returns-in-Ok : goal.returns-in-Ok
 returns-in-Ok g c =
-    let form = g.T.AsValue.form in
-    let s = g.T.Decodable.format in
-    rw c.as_value.ensures (as_ok s (formed_format form s) form (formed form s) c.in-Ok.ensures)
+    rw c.as_value.ensures (decodes_exactly
+    (as_read (formed g.T.AsValue.form g.T.Decodable.format) (Ok _) (of_exact c.in-Ok.ensures)))
 
 pub returns-in-Err : goal.returns-in-Err
 returns-in-Err g c =
-    let form = g.T.AsValue.form in
-    let s = g.T.Decodable.format in
-    as_err s (formed_format form s) form (formed form s) c.in-Err.ensures
+    decodes_exactly
+    (as_read (formed g.T.AsValue.form g.T.Decodable.format) (Err _) (of_exact c.in-Err.ensures))

@@ -8,10 +8,7 @@ use Rattle.cbor4ii.proofs.Steps.{under_if, no_step_left}
 use Rattle.cbor4ii.proofs.serde.de.elements.take_elements.Goals as goal
 
 pub returns-then-not-step_in : goal.returns-then-not-step_in
-returns-then-not-step_in g c =
-    let e = g.V.TypedElements.elements in
-    promised (typed_elements e) (of_exact (no_step_left (after_format e.count e.format) _
-    (search rules) c.if-not-step_in.ensures.budget c.step_in.ensures.others))
+returns-then-not-step_in g c = search (rules, promised, of_exact, no_step_left)
 
 pub returns : goal.returns
 returns g c =

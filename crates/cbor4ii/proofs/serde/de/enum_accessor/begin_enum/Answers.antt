@@ -5,9 +5,7 @@ use Rattle.cbor4ii.proofs.Steps.{breaks_stepped, no_step_left, under}
 use Rattle.cbor4ii.proofs.serde.de.enum_accessor.begin_enum.Goals as goal
 
 pub returns-then-not-step_in-clause-rejected : goal.returns-then-not-step_in-clause-rejected
-returns-then-not-step_in-clause-rejected g c =
-    no_step_left form_format _ (search rules) c.if-not-step_in.ensures.budget
-    c.step_in.ensures.others
+returns-then-not-step_in-clause-rejected g c = search (rules, no_step_left)
 
 pub returns-in-Err-clause-rejected : goal.returns-in-Err-clause-rejected
 returns-in-Err-clause-rejected g c =
@@ -16,6 +14,4 @@ returns-in-Err-clause-rejected g c =
     c.in-Err.ensures.decodes
 
 pub returns-in-Err-clause-failed : goal.returns-in-Err-clause-failed
-returns-in-Err-clause-failed g c =
-    λ is. breaks_stepped c.if-not-step_in.ensures.budget c.step_in.ensures.others
-    (c.in-Err.ensures.failed is) c.step_out.ensures.budget c.step_out.ensures.others
+returns-in-Err-clause-failed g c = search (rules, breaks_stepped)

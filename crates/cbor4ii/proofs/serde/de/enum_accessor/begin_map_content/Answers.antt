@@ -1,4 +1,4 @@
-use Rattle.std.proofs.Common.{refl, inl}
+use Rattle.std.proofs.Common.{refl, inl, rules}
 use Rattle.cbor4ii.proofs.Items.{spares}
 use Rattle.cbor4ii_items.specs.Laws.Running.{kept_alike}
 use Rattle.cbor4ii.proofs.Contents.{content_complete, content_rejects, given_back}
@@ -14,14 +14,10 @@ returns-in-Err-clause-rejects g c =
     c.in-Err.ensures.rejected.begins
 
 pub returns-then-not-content-clause-finishes : goal.returns-then-not-content-clause-finishes
-returns-then-not-content-clause-finishes g c =
-    given_back {V = Unit {0}} (record { by = kept_alike _; depth = λ e. refl })
-    c.step_out.ensures.budget c.step_out.ensures.others
+returns-then-not-content-clause-finishes g c = search (rules, given_back, kept_alike)
 
 pub returns-in-Err-clause-memory : goal.returns-in-Err-clause-memory
 returns-in-Err-clause-memory g c = spares _ c.in-Err.ensures.rejected.memory
 
 pub returns-in-Err-clause-finishes : goal.returns-in-Err-clause-finishes
-returns-in-Err-clause-finishes g c =
-    given_back c.in-Err.ensures.rejected.moves c.step_out-in-Err.ensures.budget
-    c.step_out-in-Err.ensures.others
+returns-in-Err-clause-finishes g c = search (rules, given_back)

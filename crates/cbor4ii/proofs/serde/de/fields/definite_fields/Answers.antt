@@ -1,4 +1,4 @@
-use Rattle.std.proofs.Common.{arith, refl, [], Err}
+use Rattle.std.proofs.Common.{arith, refl, [], rules}
 use Rattle.cbor4ii_items.specs.Laws.Running.{kept_alike}
 use Rattle.cbor4ii_items.specs.Laws.SequenceParts.{no_part, count_err}
 use Rattle.cbor4ii_items.specs.Sequences.{in_list}
@@ -39,6 +39,4 @@ returns-clause-alters g c =
     c.loop-i.invariant (omega (arith, c.loop-i-test.false, c.loop-i.auto.i-end))
 
 pub returns-in_err-take_field-clause-memory : goal.returns-in_err-take_field-clause-memory
-returns-in_err-take_field-clause-memory g c =
-    rw c.from_residual.ensures (wants_after g.K.ReadKey.may_want g.K.ReadKey.wants_before
-    {V = Unit {0}} _ (Err _) c.loop-i.invariant.begun.kept c.in_err-take_field.ensures.memory)
+returns-in_err-take_field-clause-memory g c = search (rules, wants_after)

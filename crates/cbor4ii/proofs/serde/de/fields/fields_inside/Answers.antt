@@ -1,4 +1,4 @@
-use Rattle.std.proofs.Common.{Err, false}
+use Rattle.std.proofs.Common.{rules}
 use Rattle.std.specs.Prelude.{codes}
 use Rattle.cbor4ii_items.specs.Laws.Calls.{of_exact}
 use Rattle.cbor4ii_items.specs.Laws.SequenceHeads.{head_err, counts, opens}
@@ -40,18 +40,10 @@ returns-in-Err-clause-alters g c =
     five_small (of_exact c.in-Err.ensures))
 
 pub returns-in-Ok-Some-clause-memory : goal.returns-in-Ok-Some-clause-memory
-returns-in-Ok-Some-clause-memory g c =
-    wants_after g.K.ReadKey.may_want g.K.ReadKey.wants_before _
-    (answer_of (typed_value_or_error c.definite_fields.result _)) c.in-Ok-Some.ensures.moves.by
-    c.definite_fields.ensures.memory
+returns-in-Ok-Some-clause-memory g c = search (rules, wants_after)
 
 pub returns-in-Ok-None-clause-memory : goal.returns-in-Ok-None-clause-memory
-returns-in-Ok-None-clause-memory g c =
-    wants_after g.K.ReadKey.may_want g.K.ReadKey.wants_before _
-    (answer_of (typed_value_or_error c.indefinite_fields.result _)) c.in-Ok-None.ensures.moves.by
-    c.indefinite_fields.ensures.memory
+returns-in-Ok-None-clause-memory g c = search (rules, wants_after)
 
 pub returns-in-Err-clause-memory : goal.returns-in-Err-clause-memory
-returns-in-Err-clause-memory g c =
-    rw c.leave.ensures (wants_as g.K.ReadKey.may_want {V = Unit {0}} _ false _ (Err _) not_exact
-    c.in-Err.ensures.memory)
+returns-in-Err-clause-memory g c = search (rules, wants_as, not_exact)

@@ -1,4 +1,4 @@
-use Rattle.std.proofs.Common.{arith, refl, inl, [], Err}
+use Rattle.std.proofs.Common.{refl, inl, [], Err, rules}
 use Rattle.std.specs.Prelude.{codes}
 use Rattle.cbor4ii_items.specs.Laws.Answering.{fits_zero}
 use Rattle.cbor4ii_items.specs.Laws.Running.{kept_alike}
@@ -54,11 +54,7 @@ returns-in_err-take_field-clause-alters g c =
     c.in_err-take_field.ensures.alters))
 
 pub loop-alloc-preserved : goal.loop-alloc-preserved
-loop-alloc-preserved g c =
-    let taken = rw c.in_ok-part.ensures at c.takes_break.ensures.runs in
-    unended_more g.K.ReadKey.key (g.V.Places.fields (labels_by g.K.ReadKey.label c.args.keys.now))
-    c.loop-alloc.invariant
-    (stands c.if-not-branch.true taken) c.in_ok-take_field.ensures.alters
+loop-alloc-preserved g c = search (rules, unended_more)
 
 pub returns-clause-alters : goal.returns-clause-alters
 returns-clause-alters g c =
@@ -67,19 +63,15 @@ returns-clause-alters g c =
     c.loop-alloc.invariant (rw c.in_ok-part.ensures at c.takes_break.ensures.runs)
 
 pub loop-alloc-smaller : goal.loop-alloc-smaller
-loop-alloc-smaller g c =
-    let taken = rw c.in_ok-part.ensures at c.takes_break.ensures.runs in
-    omega (arith, c.in_ok-take_field.ensures.alters.read.progress refl, taken.moves.by.bound)
+loop-alloc-smaller g c = search rules
 
 pub returns-in_err-part-clause-memory : goal.returns-in_err-part-clause-memory
-returns-in_err-part-clause-memory g c =
-    rw c.from_residual.ensures (wants_never g.K.ReadKey.may_want (Unit {0}) _ _ _
-    (rw c.in_err-part.ensures at c.takes_break.ensures.memory))
+returns-in_err-part-clause-memory g c = search (rules, wants_never)
 
 pub returns-in_err-take_field-clause-memory : goal.returns-in_err-take_field-clause-memory
 returns-in_err-take_field-clause-memory g c =
     let taken = rw c.in_ok-part.ensures at c.takes_break.ensures.runs in
     rw c.from_residual-in_err-take_field.ensures (wants_after g.K.ReadKey.may_want
-    g.K.ReadKey.wants_before {V = Unit {0}} _ (Err _) c.loop-alloc.invariant.opened.kept
-    (wants_after g.K.ReadKey.may_want g.K.ReadKey.wants_before {V = Unit {0}} _ (Err _)
-    taken.moves.by c.in_err-take_field.ensures.memory))
+    {V = Unit {0}} _ _ _ (Err _) (g.K.ReadKey.wants_before _ _ c.loop-alloc.invariant.opened.kept)
+    (wants_after g.K.ReadKey.may_want {V = Unit {0}} _ _ _ (Err _)
+    (g.K.ReadKey.wants_before _ _ taken.moves.by) c.in_err-take_field.ensures.memory))

@@ -8,16 +8,12 @@ use Rattle.cbor4ii.specs.Fields.{all_changes}
 use Rattle.cbor4ii.specs.Structs.{field_pair}
 use Rattle.cbor4ii.specs.Typed.{answer_of, not_exact}
 use Rattle.cbor4ii.proofs.Filling.{alters_under}
-use Rattle.cbor4ii.proofs.KeyMemory.{wants_under}
+use Rattle.cbor4ii.proofs.KeyMemory.{wants_after}
 use Rattle.cbor4ii.proofs.Steps.{no_step_left}
 use Rattle.cbor4ii.proofs.serde.de.fields.take_fields.Goals as goal
 
 pub returns-then-not-step_in-clause-alters : goal.returns-then-not-step_in-clause-alters
-returns-then-not-step_in-clause-alters g c =
-    of_exact (no_step_left (inside_of in_list (codes "map") 5
-    (field_pair g.K.ReadKey.key (g.V.Places.fields (labels_by g.K.ReadKey.label c.args.keys.now))))
-    _ (search rules)
-    c.if-not-step_in.ensures.budget c.step_in.ensures.others)
+returns-then-not-step_in-clause-alters g c = search (rules, of_exact, no_step_left)
 
 pub returns-clause-alters : goal.returns-clause-alters
 returns-clause-alters g c =
@@ -33,7 +29,4 @@ pub returns-then-not-step_in-clause-memory : goal.returns-then-not-step_in-claus
 returns-then-not-step_in-clause-memory g c out = not_exact out
 
 pub returns-clause-memory : goal.returns-clause-memory
-returns-clause-memory g c =
-    rw c.whole.ensures (wants_under g.K.ReadKey.may_want g.K.ReadKey.wants_under _
-    (answer_of (typed_value_or_error c.fields_inside-outcome.result _)) c.step_in.ensures.others
-    c.fields_inside-outcome.ensures.memory)
+returns-clause-memory g c = search (rules, wants_after)

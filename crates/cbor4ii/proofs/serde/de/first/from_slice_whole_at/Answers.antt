@@ -1,4 +1,4 @@
-use Rattle.std.proofs.Common.{◌≡◌, ap, ◌∙◌, length, subst, refl, arith}
+use Rattle.std.proofs.Common.{◌≡◌, ap, ◌∙◌, length, subst, refl, arith, rules}
 use Rattle.cbor4ii_rw.specs.View.{IfKnown}
 use Rattle.cbor4ii_items.specs.Laws.Wholes.{stops_after, stops_before, sure_is_exact}
 use Rattle.cbor4ii.specs.First.{typed_error_of}
@@ -62,14 +62,7 @@ returns-in-Ok-2-clause-exact g c is sure =
     g.T.Typed.promise.format.reads (returns-in-Ok-2-clause-whole g c).trailing
 
 pub returns-in-Err-clause-within : goal.returns-in-Err-clause-within
-returns-in-Err-clause-within g c =
-    stops_within (g.I.Input.bytes c.args.input) c.saturating_sub-at.result
-    (omega (
-      arith,
-      c.saturating_sub-at.ensures,
-      c.left-length.ensures _
-          c.reader-source.ensures.known,
-    )) c.in-Err.error
+returns-in-Err-clause-within g c = search (rules, stops_within)
 
 pub returns-in-Err-clause-at : goal.returns-in-Err-clause-at
 returns-in-Err-clause-at g c says =

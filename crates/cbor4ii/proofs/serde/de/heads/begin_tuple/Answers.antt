@@ -6,9 +6,7 @@ use Rattle.cbor4ii.proofs.Tupled.{count_length}
 use Rattle.cbor4ii.proofs.serde.de.heads.begin_tuple.Goals as goal
 
 pub returns-then-not-step_in-clause-rejected : goal.returns-then-not-step_in-clause-rejected
-returns-then-not-step_in-clause-rejected g c =
-    no_step_left (container_head_format c.args.len) _ (search rules) c.if-not-step_in.ensures.budget
-    c.step_in.ensures.others
+returns-then-not-step_in-clause-rejected g c = search (rules, no_step_left)
 
 pub returns-in-Ok-clause-opened : goal.returns-in-Ok-clause-opened
 returns-in-Ok-clause-opened g c = record {

@@ -1,9 +1,8 @@
-use Rattle.std.proofs.Common.{◌≡◌, ℤ, Option, Err, inr, true, false, refl, subst, nat_eq}
+use Rattle.std.proofs.Common.{◌≡◌, inr, true, false, refl, subst, nat_eq, rules}
 use Rattle.cbor4ii.proofs.Keying.{comes, is_text, is_no_text, no_key, text_ok, text_err}
 use Rattle.cbor4ii.proofs.Keying.{integer_any}
 use Rattle.cbor4ii.proofs.Names.{key_taken}
 use Rattle.cbor4ii.proofs.Promised.{whole}
-use Rattle.cbor4ii.specs.Keys.{TextComes}
 use Rattle.cbor4ii.specs.Typed.{not_exact}
 use Rattle.cbor4ii.proofs.KeyMemory.{wants_as, wants_integer, comes_here}
 use Rattle.cbor4ii.proofs.serde.de.keys.take_integer.Goals as goal
@@ -32,10 +31,7 @@ returns-clause-decodes g c =
     (whole refl refl c.deserialize.ensures))
 
 pub returns-in-Err-clause-memory : goal.returns-in-Err-clause-memory
-returns-in-Err-clause-memory g c =
-    wants_as TextComes {V = Option ℤ} (g.S.Source.view c.args.de.now.reader) false _ (Err _)
-    not_exact
-    c.in-Err.ensures.decodes.memory
+returns-in-Err-clause-memory g c = search (rules, wants_as, not_exact)
 
 pub returns-in-None-clause-memory : goal.returns-in-None-clause-memory
 returns-in-None-clause-memory g c out =
@@ -44,6 +40,4 @@ returns-in-None-clause-memory g c out =
     (is_text c.if_major.result c.if-if_major-eq-STRING.true))))
 
 pub returns-clause-memory : goal.returns-clause-memory
-returns-clause-memory g c =
-    rw c.as_key.ensures (wants_integer (g.S.Source.view c.args.de.now.reader) c.deserialize.result
-    c.deserialize.ensures.memory)
+returns-clause-memory g c = search (rules, wants_integer)

@@ -1,5 +1,5 @@
 use Rattle.std.proofs.lemmas.Result.{err_from_is_err_and}
-use Rattle.std.proofs.Common.{◌≡◌, List, [], ◌∷◌, ◌++◌, refl, ap, sym, ◌∙◌}
+use Rattle.std.proofs.Common.{◌≡◌, List, [], ◌∷◌, ◌++◌, refl, rules}
 use Rattle.std.specs.declared.cmp.Ordering.{Ordering}
 use Rattle.std.specs.BTreeMap.{insert_entry}
 use Rattle.cbor4ii.specs.Built.{put_all}
@@ -11,10 +11,7 @@ put-last cmp es [] p = refl
 put-last cmp es (q ∷ qs) p = put-last cmp (insert_entry cmp es q.0 q.1) qs p
 
 pub loop-key-preserved : goal.loop-key-preserved
-loop-key-preserved g c =
-    c.in_ok-put.ensures
-    ∙ (ap (λ es. insert_entry g.K.Ord.cmp es c.in-Some.key c.in-Some.value) c.loop-key.invariant
-    ∙ sym (put-last g.K.Ord.cmp [] c.loop-key.yielded (c.in-Some.key, c.in-Some.value)))
+loop-key-preserved g c = search (rules, put-last)
 
 pub returns-in_err-put : goal.returns-in_err-put
 returns-in_err-put g c =

@@ -1,4 +1,4 @@
-use Rattle.std.proofs.Common.{Err}
+use Rattle.std.proofs.Common.{Err, rules}
 use Rattle.cbor4ii.specs.Answered.{typed_value_or_error}
 use Rattle.cbor4ii.specs.Typed.{answer_of}
 use Rattle.cbor4ii_items.specs.Laws.Contents.{stays_then}
@@ -31,7 +31,4 @@ loop-want-preserved g c =
     stays_then c.loop-want.invariant (rw c.in-Some-Cut.field-0-is at c.in-Some-Cut.ensures)
 
 pub returns : goal.returns
-returns g c =
-    then_takes c.args.names.now _ (answer_of (typed_value_or_error c.take_any_name-2.result _))
-    c.loop-want.invariant
-    c.take_any_name-2.ensures
+returns g c = search (rules, then_takes)

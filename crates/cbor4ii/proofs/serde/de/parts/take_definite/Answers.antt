@@ -23,11 +23,7 @@ returns-in-Err g c =
     (kept_then c.loop-i.invariant.kept c.in_ok-part.ensures.moves.by))
 
 pub loop-i-init : goal.loop-i-init
-loop-i-init g c = record {
-  kept = kept_alike _;
-  count = search rules;
-  parts = no_part g.Q.Sequence.part.reads refl (search rules);
-}
+loop-i-init g c = search (rules, kept_alike, no_part)
 
 pub loop-i-preserved : goal.loop-i-preserved
 loop-i-preserved g c =

@@ -1,4 +1,4 @@
-use Rattle.std.proofs.Common.{arith, refl, inl, rules}
+use Rattle.std.proofs.Common.{refl, inl, rules}
 use Rattle.std.proofs.lemmas.Result.{err_from_is_err_and}
 use Rattle.cbor4ii_items.specs.Laws.Calls.{out_of_memory, of_exact}
 use Rattle.cbor4ii_items.specs.Laws.Running.{kept_alike}
@@ -6,7 +6,7 @@ use Rattle.cbor4ii_items.specs.Laws.SequenceParts.{no_part, stands, indefinite_m
 use Rattle.cbor4ii_items.specs.Laws.SequenceParts.{indefinite_done, indefinite_err}
 use Rattle.cbor4ii_items.specs.Laws.SequenceParts.{place_end, place_part}
 use Rattle.cbor4ii_items.specs.Laws.Steps.{kept_then}
-use Rattle.cbor4ii_items.specs.Sequences.{Unbroken, indefinite_of, in_list}
+use Rattle.cbor4ii_items.specs.Sequences.{indefinite_of, in_list}
 use Rattle.cbor4ii.proofs.serde.de.parts.take_indefinite.Goals as goal
 
 pub returns-in_err-takes_break : goal.returns-in_err-takes_break
@@ -33,11 +33,7 @@ returns-in-Err g c =
     c.in_ok-part.ensures.moves.by))
 
 pub loop-parts-init : goal.loop-parts-init
-loop-parts-init g c = record {
-  allowed = inl g.met.Q.Sequence.some;
-  parts = no_part (Unbroken g.Q.Sequence.part.reads) refl (search rules);
-  kept = kept_alike _;
-}
+loop-parts-init g c = search (rules, inl, no_part, kept_alike)
 
 pub loop-parts-preserved : goal.loop-parts-preserved
 loop-parts-preserved g c =
@@ -51,9 +47,4 @@ returns g c =
     c.loop-parts.invariant c.in_ok-takes_break.ensures.runs)
 
 pub loop-parts-smaller : goal.loop-parts-smaller
-loop-parts-smaller g c =
-    omega (
-      arith,
-      c.in_ok-part.ensures.progress g.met.Q.Sequence.some,
-      c.in_ok-takes_break.ensures.runs.moves.by.bound,
-    )
+loop-parts-smaller g c = search rules

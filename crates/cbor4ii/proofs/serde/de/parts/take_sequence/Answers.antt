@@ -6,10 +6,7 @@ use Rattle.cbor4ii.proofs.Steps.{no_step_left, under_if}
 use Rattle.cbor4ii.proofs.serde.de.parts.take_sequence.Goals as goal
 
 pub returns-then-not-step_in : goal.returns-then-not-step_in
-returns-then-not-step_in g c =
-    let inside = inside_of in_list g.Q.Sequence.name g.Q.Sequence.major g.Q.Sequence.part in
-    of_exact (no_step_left inside c.args.step (search rules) c.if-not-step_in.ensures.budget
-    c.step_in.ensures.others)
+returns-then-not-step_in g c = search (rules, of_exact, no_step_left)
 
 pub returns : goal.returns
 returns g c =

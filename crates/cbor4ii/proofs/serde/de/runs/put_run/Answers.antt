@@ -1,4 +1,4 @@
-use Rattle.std.proofs.Common.{rules, arith, w8}
+use Rattle.std.proofs.Common.{rules, w8}
 use Rattle.std.proofs.Math.Facts.{Fits-lt-pow}
 use Rattle.cbor4ii_items.specs.Laws.Contents.{first_bytes}
 use Rattle.cbor4ii.proofs.ShownParts.{puts_none, puts_more}
@@ -8,10 +8,7 @@ pub loop-part-init : goal.loop-part-init
 loop-part-init g c = (puts_none g.Q.Sequence.part.reads _, λ h. h)
 
 pub loop-part-preserved : goal.loop-part-preserved
-loop-part-preserved g c = (
-  puts_more g.Q.Sequence.part.reads c.loop-part.invariant.0 c.in-Some.ensures (search rules),
-  λ h. omega (arith, c.push.ensures.len),
-)
+loop-part-preserved g c = search (rules, puts_more)
 
 pub returns-clause-bytes : goal.returns-clause-bytes
 returns-clause-bytes g c = first_bytes _ _ (λ i. Fits-lt-pow {w = w8} (c.type_inv.shown i))

@@ -39,13 +39,7 @@ returns-in-Err-push g c =
     (kept_then (kept_then c.loop-alloc.invariant.0.kept run.kept) c.in_ok-part.ensures.moves.by))
 
 pub loop-alloc-init : goal.loop-alloc-init
-loop-alloc-init g c =
-    let stays = c.step_left-steps.ensures.stays in (
-      begun_none g.Q.Sequence.part (search rules) stays,
-      omega arith,
-      subst (CostFits c.step_left-steps.result) (sym stays.kept.budget)
-          c.step_left-steps.ensures.fits,
-    )
+loop-alloc-init g c = search (rules, begun_none)
 
 pub loop-alloc-preserved : goal.loop-alloc-preserved
 loop-alloc-preserved g c =

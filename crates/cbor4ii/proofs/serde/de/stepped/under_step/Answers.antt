@@ -7,9 +7,7 @@ use Rattle.cbor4ii.proofs.Steps.{under_if, no_step_left}
 use Rattle.cbor4ii.proofs.serde.de.stepped.under_step.Goals as goal
 
 pub returns-then-not-step_in : goal.returns-then-not-step_in
-returns-then-not-step_in g c =
-    of_exact (no_step_left (part_of g.T.Typed.promise) c.args.name (search rules)
-    c.if-not-step_in.ensures.budget c.step_in.ensures.others)
+returns-then-not-step_in g c = search (rules, of_exact, no_step_left)
 
 pub returns : goal.returns
 returns g c =

@@ -1,8 +1,7 @@
+use Rattle.std.proofs.Common.{rules}
 use Rattle.cbor4ii_items.proofs.Leaves.{decodes_of_runs}
 use Rattle.cbor4ii_items.proofs.BigLeaf.{i128_leaf}
 use Rattle.cbor4ii_items.proofs.numbers.big.I128Decode.decode.Goals as goal
 
 pub returns : goal.returns
-returns g c =
-    decodes_of_runs i128_leaf c.take_i128.result c.take_i128.ensures.runs c.take_i128.ensures.memory
-    c.take_i128.ensures.progress
+returns g c = search (rules, decodes_of_runs, i128_leaf)

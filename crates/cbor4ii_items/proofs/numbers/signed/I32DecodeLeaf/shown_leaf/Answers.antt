@@ -1,4 +1,4 @@
-use Rattle.std.proofs.Common.{arith, w32}
+use Rattle.std.proofs.Common.{arith, w32, rules}
 use Rattle.cbor4ii_items.proofs.ShownLeaves.{cast_fits, cast_is, shown_as}
 use Rattle.cbor4ii_items.proofs.numbers.signed.I32DecodeLeaf.shown_leaf.Goals as goal
 
@@ -7,7 +7,4 @@ overflow_cast-result c =
     cast_fits w32 c.in_ok-number.number (omega arith) c.in_ok-number.ensures.range
 
 pub returns : goal.returns
-returns c =
-    shown_as c.args.steps
-    (cast_is w32 c.in_ok-number.number (omega arith) c.in_ok-number.ensures.range)
-    c.in_ok-number.ensures.stands
+returns c = search (rules, shown_as, cast_is, w32)

@@ -1,4 +1,4 @@
-use Rattle.std.proofs.Common.{Ok, Err}
+use Rattle.std.proofs.Common.{Ok, Err, rules}
 use Rattle.cbor4ii_items.specs.Laws.Calls.{of_exact, exactly_ok}
 use Rattle.cbor4ii.specs.TypedParts.{part_of}
 use Rattle.cbor4ii.proofs.Going.{next_end, next_part, next_rejected, next_err, may_go_on}
@@ -19,63 +19,20 @@ returns-in-Err-deserialize-clause-decodes g c =
     (tell g.T.Typed.promise (Err _) c.in-Err-deserialize.ensures)
 
 pub returns-in-Ok-false-clause-decodes : goal.returns-in-Ok-false-clause-decodes
-returns-in-Ok-false-clause-decodes g c =
-    of_exact (next_end _ (part_of g.T.Typed.promise)
-    (rw c.in-Ok-false.field-0-test at c.in-Ok-false.ensures.decodes))
+returns-in-Ok-false-clause-decodes g c = search (rules, of_exact, next_end)
 
 pub returns-in-Err-clause-decodes : goal.returns-in-Err-clause-decodes
 returns-in-Err-clause-decodes g c =
     next_rejected _ (part_of g.T.Typed.promise) c.in-Err.ensures.decodes
 
 pub returns-in-Ok-clause-goes_on : goal.returns-in-Ok-clause-goes_on
-returns-in-Ok-clause-goes_on g c =
-    let starts = rw c.in-Ok-true.field-0-test at c.in-Ok-true.ensures.starts in
-    record {
-      same_reference = starts.same_reference;
-      same_steps = starts.same_steps;
-      left = left_started _ _ _ starts.left;
-      tried = tt;
-      asked = tt;
-      still = λ not is. cc;
-      shrinks = shrinks_by _ _ _ _ _ starts.left c.in-Ok-true.ensures.decodes.moves.by.bound
-          c.in-Ok.ensures.progress;
-    }
+returns-in-Ok-clause-goes_on g c = search (rules, left_started, shrinks_by)
 
 pub returns-in-Err-deserialize-clause-goes_on : goal.returns-in-Err-deserialize-clause-goes_on
-returns-in-Err-deserialize-clause-goes_on g c =
-    let starts = rw c.in-Ok-true.field-0-test at c.in-Ok-true.ensures.starts in
-    record {
-      same_reference = starts.same_reference;
-      same_steps = starts.same_steps;
-      left = tt;
-      tried = tried_started _ _ starts.left;
-      asked = may_go_on _ _ starts.left;
-      still = λ not. tt;
-      shrinks = tt;
-    }
+returns-in-Err-deserialize-clause-goes_on g c = search (rules, tried_started, may_go_on)
 
 pub returns-in-Ok-false-clause-goes_on : goal.returns-in-Ok-false-clause-goes_on
-returns-in-Ok-false-clause-goes_on g c =
-    let starts = rw c.in-Ok-false.field-0-test at c.in-Ok-false.ensures.starts in
-    record {
-      same_reference = starts.same_reference;
-      same_steps = starts.same_steps;
-      left = left_ended _ _ _ starts.left;
-      tried = tt;
-      asked = tt;
-      still = λ not is. starts.still not;
-      shrinks = tt;
-    }
+returns-in-Ok-false-clause-goes_on g c = search (rules, left_ended)
 
 pub returns-in-Err-clause-goes_on : goal.returns-in-Err-clause-goes_on
-returns-in-Err-clause-goes_on g c =
-    let starts = c.in-Err.ensures.starts in
-    record {
-      same_reference = starts.same_reference;
-      same_steps = starts.same_steps;
-      left = tt;
-      tried = rw starts.asked starts.kept;
-      asked = rw starts.asked tt;
-      still = λ not. tt;
-      shrinks = tt;
-    }
+returns-in-Err-clause-goes_on g c = search rules

@@ -1,5 +1,4 @@
-use Rattle.std.proofs.Common.{Ok, Err, ◌∙◌, refl}
-use Rattle.cbor4ii.specs.Accessing.{left_in}
+use Rattle.std.proofs.Common.{Ok, Err, rules}
 use Rattle.cbor4ii.specs.TypedParts.{part_of, part_lawful}
 use Rattle.cbor4ii.proofs.Entries.{entry_read, entry_none, no_key_left, no_value_left}
 use Rattle.cbor4ii.proofs.Going.{may_have_gone_on, same_left, same_ended, tried_left, less_fuel}
@@ -28,53 +27,13 @@ returns-in-Err-clause-decodes g c =
     no_key_left (part_of g.K.Typed.promise) (part_of g.V.Typed.promise) _ _ c.in-Err.ensures.decodes
 
 pub returns-in-Ok-clause-goes_on : goal.returns-in-Ok-clause-goes_on
-returns-in-Ok-clause-goes_on g c =
-    let on = rw c.in-Ok-Some.field-0-is at c.in-Ok-Some.ensures.goes_on in
-    record {
-      same_reference = on.same_reference;
-      same_steps = on.same_steps;
-      left = on.left ∙ same_left _ _ _;
-      tried = tt;
-      asked = tt;
-      still = λ not is. cc;
-      shrinks = less_fuel (left_in c.next_element.new.self) _ _ _ on.shrinks c.in-Ok.ensures.moves.by.bound;
-    }
+returns-in-Ok-clause-goes_on g c = search (rules, same_left, less_fuel)
 
 pub returns-in-Err-deserialize-clause-goes_on : goal.returns-in-Err-deserialize-clause-goes_on
-returns-in-Err-deserialize-clause-goes_on g c =
-    let on = rw c.in-Ok-Some.field-0-is at c.in-Ok-Some.ensures.goes_on in
-    record {
-      same_reference = on.same_reference;
-      same_steps = on.same_steps;
-      left = tt;
-      tried = on.left ∙ tried_left _ _;
-      asked = may_have_gone_on _ _ _ on.shrinks;
-      still = λ not. tt;
-      shrinks = tt;
-    }
+returns-in-Err-deserialize-clause-goes_on g c = search (rules, tried_left, may_have_gone_on)
 
 pub returns-in-Ok-None-clause-goes_on : goal.returns-in-Ok-None-clause-goes_on
-returns-in-Ok-None-clause-goes_on g c =
-    let on = rw c.in-Ok-None.field-0-is at c.in-Ok-None.ensures.goes_on in
-    record {
-      same_reference = on.same_reference;
-      same_steps = on.same_steps;
-      left = on.left ∙ same_ended _ _ _;
-      tried = tt;
-      asked = tt;
-      still = λ not is. on.still not refl;
-      shrinks = tt;
-    }
+returns-in-Ok-None-clause-goes_on g c = search (rules, same_ended)
 
 pub returns-in-Err-clause-goes_on : goal.returns-in-Err-clause-goes_on
-returns-in-Err-clause-goes_on g c =
-    let on = c.in-Err.ensures.goes_on in
-    record {
-      same_reference = on.same_reference;
-      same_steps = on.same_steps;
-      left = tt;
-      tried = on.tried;
-      asked = on.asked;
-      still = λ not. tt;
-      shrinks = tt;
-    }
+returns-in-Err-clause-goes_on g c = search rules

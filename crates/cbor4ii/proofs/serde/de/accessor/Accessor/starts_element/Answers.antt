@@ -1,4 +1,4 @@
-use Rattle.std.proofs.Common.{refl}
+use Rattle.std.proofs.Common.{rules}
 use Rattle.cbor4ii.proofs.Going.{start_indefinite, start_rejected}
 use Rattle.cbor4ii.proofs.serde.de.accessor.Accessor.starts_element.Goals as goal
 
@@ -16,31 +16,10 @@ pub returns-in-Err-clause-decodes : goal.returns-in-Err-clause-decodes
 returns-in-Err-clause-decodes g c = rw c.in-Indefinite.is (start_rejected c.in-Err.ensures.decodes)
 
 pub returns-in-Ok-true-clause-starts : goal.returns-in-Ok-true-clause-starts
-returns-in-Ok-true-clause-starts g c = record {
-  same_reference = refl;
-  same_steps = refl;
-  left = rw c.in-Indefinite.is refl;
-  asked = tt;
-  kept = tt;
-  still = λ not. absurd (not c.in-Indefinite.is);
-}
+returns-in-Ok-true-clause-starts g c = search rules
 
 pub returns-in-Ok-false-clause-starts : goal.returns-in-Ok-false-clause-starts
-returns-in-Ok-false-clause-starts g c = record {
-  same_reference = refl;
-  same_steps = refl;
-  left = rw c.in-Indefinite.is refl;
-  asked = tt;
-  kept = tt;
-  still = λ not. absurd (not c.in-Indefinite.is);
-}
+returns-in-Ok-false-clause-starts g c = search rules
 
 pub returns-in-Err-clause-starts : goal.returns-in-Err-clause-starts
-returns-in-Err-clause-starts g c = record {
-  same_reference = refl;
-  same_steps = refl;
-  left = tt;
-  asked = c.in-Indefinite.is;
-  kept = c.in-Indefinite.is;
-  still = λ not. absurd (not c.in-Indefinite.is);
-}
+returns-in-Err-clause-starts g c = search rules

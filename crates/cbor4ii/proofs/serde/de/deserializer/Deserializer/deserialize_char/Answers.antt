@@ -1,4 +1,4 @@
-use Rattle.std.proofs.Common.{refl, inl, sym, ◌∙◌, subst}
+use Rattle.std.proofs.Common.{refl, inl, subst, rules}
 use Rattle.cbor4ii_items.specs.Laws.Steps.{moves_err}
 use Rattle.cbor4ii.specs.Character.{NoCharacter}
 use Rattle.cbor4ii.proofs.Characters.{char_sound, char_complete, char_rejects, other_moves}
@@ -7,9 +7,7 @@ use Rattle.cbor4ii.proofs.Promised.{ok}
 use Rattle.cbor4ii.proofs.serde.de.deserializer.Deserializer.deserialize_char.Goals as goal
 
 pub returns-in-Some : goal.returns-in-Some
-returns-in-Some g c =
-    ok _ c.in-Ok.ensures.moves.by (c.in-Ok.ensures.progress refl)
-    (char_sound (sym c.as_str.ensures.value ∙ c.in-Some.ensures.one) c.in-Ok.ensures.sound)
+returns-in-Some g c = search (rules, ok, char_sound)
 
 pub returns-in-Ok : goal.returns-in-Ok
 returns-in-Ok g c =

@@ -1,3 +1,4 @@
+use Rattle.std.proofs.Common.{rules}
 use Rattle.cbor4ii.proofs.Checking.{checked_ok, checked_err, checked_memory, unchecked}
 use Rattle.cbor4ii.proofs.serde.de.deserializer.Deserializer.deserialize_checked.Goals as goal
 
@@ -13,10 +14,7 @@ returns-in-Err-Rejected-clause-promised g c =
     (rw c.in-Err-Rejected.field-0-is at c.in-Err-Rejected.ensures) c.in-Ok.ensures
 
 pub returns-in-Err-OutOfMemory-clause-promised : goal.returns-in-Err-OutOfMemory-clause-promised
-returns-in-Err-OutOfMemory-clause-promised g c =
-    checked_memory g.V.Typed.promise g.T.CheckedFrom.words g.T.CheckedFrom.makes
-    g.T.CheckedFrom.takes_memory
-    (rw c.in-Err-OutOfMemory.field-0-is at c.in-Err-OutOfMemory.ensures) c.in-Ok.ensures
+returns-in-Err-OutOfMemory-clause-promised g c = search (rules, checked_memory)
 
 pub returns-in-Err-clause-promised : goal.returns-in-Err-clause-promised
 returns-in-Err-clause-promised g c =

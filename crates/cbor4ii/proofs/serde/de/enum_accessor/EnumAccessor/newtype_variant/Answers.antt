@@ -1,11 +1,10 @@
+use Rattle.std.proofs.Common.{rules}
 use Rattle.cbor4ii.proofs.IfKnown.{on_ok, if_ok, if_err}
 use Rattle.cbor4ii.proofs.Contents.{content_ok, content_err, content_said, content_rejected}
 use Rattle.cbor4ii.proofs.serde.de.enum_accessor.EnumAccessor.newtype_variant.Goals as goal
 
 pub returns-clause-sound : goal.returns-clause-sound
-returns-clause-sound g c =
-    content_ok _ c.deserialize.result _ _ _ c.if-not-self.false c.drop-self-2.ensures.others
-    (if_ok _ c.deserialize.result c.deserialize.ensures.sound)
+returns-clause-sound g c = search (rules, content_ok, if_ok)
 
 pub returns-clause-complete : goal.returns-clause-complete
 returns-clause-complete g c said exact =
@@ -31,6 +30,4 @@ pub returns-clause-memory : goal.returns-clause-memory
 returns-clause-memory g c = if_err _ c.deserialize.result c.deserialize.ensures.memory
 
 pub returns-clause-progress : goal.returns-clause-progress
-returns-clause-progress g c =
-    rw c.drop-self-2.ensures.others.bound
-    (on_ok _ c.deserialize.result c.deserialize.ensures.progress)
+returns-clause-progress g c = search (rules, on_ok)

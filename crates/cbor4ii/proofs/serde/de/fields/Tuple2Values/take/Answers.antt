@@ -1,4 +1,4 @@
-use Rattle.std.proofs.Common.{false, refl, length, take, drop, [], ◌-◌}
+use Rattle.std.proofs.Common.{refl, length, take, drop, [], ◌-◌, rules}
 use Rattle.cbor4ii.specs.Answered.{typed_value_or_error}
 use Rattle.cbor4ii.specs.FieldKey.{labels_by}
 use Rattle.cbor4ii.specs.Structs.{unnamed_field}
@@ -53,39 +53,20 @@ returns-in-empty-clause-alters g c label which =
     c.skip_value.ensures)
 
 pub returns-else-at-gt0-clause-moves : goal.returns-else-at-gt0-clause-moves
-returns-else-at-gt0-clause-moves g c =
-    puts_moves g.P.Place.place g.P.Value.Typed.promise c.args.self.now.0 c.put_value.new.place
-    (g.S.Source.view c.args.de.now.reader) (g.S.Source.view c.put_value.new.de.reader)
-    (answer_of (typed_value_or_error c.put_value.result _)) c.put_value.ensures
+returns-else-at-gt0-clause-moves g c = search (rules, puts_moves)
 
 pub returns-else-at-gt0-clause-progress : goal.returns-else-at-gt0-clause-progress
-returns-else-at-gt0-clause-progress g c = on_some _ c.put_value.result c.put_value.new.failure
-    (puts_progress g.P.Place.place g.P.Value.Typed.promise c.args.self.now.0 c.put_value.new.place
-    (g.S.Source.view c.args.de.now.reader) (g.S.Source.view c.put_value.new.de.reader)
-    (answer_of (typed_value_or_error c.put_value.result c.put_value.new.failure))
-    c.put_value.ensures)
+returns-else-at-gt0-clause-progress g c = search (rules, on_some, puts_progress)
 
 pub returns-in-empty-clause-progress : goal.returns-in-empty-clause-progress
 returns-in-empty-clause-progress g c = on_some _ c.skip_value.result _
     (c.skip_value.ensures.progress refl)
 
 pub returns-then-at-gt0-clause-memory : goal.returns-then-at-gt0-clause-memory
-returns-then-at-gt0-clause-memory g c =
-    wants_below g.K.ReadKey.may_want g.K.ReadKey.label g.P.Place.place g.P.Value.Typed.promise
-    g.V.Places.fields c.args.keys.now _
-    (answer_of (typed_value_or_error c.take.result _)) (some_key _ c.in-len1-up.len_at_least)
-    c.in-len1-up.len_at_least c.take.ensures.memory
+returns-then-at-gt0-clause-memory g c = search (rules, wants_below, some_key)
 
 pub returns-else-at-gt0-clause-memory : goal.returns-else-at-gt0-clause-memory
-returns-else-at-gt0-clause-memory g c =
-    wants_first g.K.ReadKey.may_want g.K.ReadKey.label g.P.Place.place g.P.Value.Typed.promise
-    g.V.Places.fields c.args.keys.now _
-    (answer_of (typed_value_or_error c.put_value.result _)) (some_key _ c.in-len1-up.len_at_least)
-    c.in-len1-up.len_at_least
-    (puts_memory g.P.Place.place g.P.Value.Typed.promise c.args.self.now.0 c.put_value.new.place _ _
-    (answer_of (typed_value_or_error c.put_value.result _)) c.put_value.ensures)
+returns-else-at-gt0-clause-memory g c = search (rules, wants_first, some_key, puts_memory)
 
 pub returns-in-empty-clause-memory : goal.returns-in-empty-clause-memory
-returns-in-empty-clause-memory g c =
-    wants_as g.K.ReadKey.may_want _ false _
-    (answer_of (typed_value_or_error c.skip_value.result _)) not_exact c.skip_value.ensures.memory
+returns-in-empty-clause-memory g c = search (rules, wants_as, not_exact)

@@ -1,4 +1,4 @@
-use Rattle.std.proofs.Common.{true, false, refl}
+use Rattle.std.proofs.Common.{true, refl, rules}
 use Rattle.cbor4ii.specs.Answered.{typed_value_or_error}
 use Rattle.cbor4ii.specs.Structs.{no_more}
 use Rattle.cbor4ii.specs.Typed.{answer_of, not_exact}
@@ -17,6 +17,4 @@ returns-clause-progress g c = on_some _ c.skip_value.result _
     (c.skip_value.ensures.progress refl)
 
 pub returns-clause-memory : goal.returns-clause-memory
-returns-clause-memory g c =
-    wants_as g.K.ReadKey.may_want _ false _
-    (answer_of (typed_value_or_error c.skip_value.result _)) not_exact c.skip_value.ensures.memory
+returns-clause-memory g c = search (rules, wants_as, not_exact)

@@ -8,12 +8,7 @@ use Rattle.cbor4ii.proofs.Steps.{under_if, no_step_left}
 use Rattle.cbor4ii.proofs.serde.de.tuples.Tuple3Deserialize.deserialize.Goals as goal
 
 pub returns-then-not-step_in : goal.returns-then-not-step_in
-returns-then-not-step_in g c =
-    let inside = after_format 3 (three_of g.A.Typed.promise g.B.Typed.promise g.C.Typed.promise)
-    in
-    promised (typed_triple g.A.Typed.promise g.B.Typed.promise g.C.Typed.promise)
-    (of_exact (no_step_left inside _
-    (search rules) c.if-not-step_in.ensures.budget c.step_in.ensures.others))
+returns-then-not-step_in g c = search (rules, promised, of_exact, no_step_left)
 
 pub returns : goal.returns
 returns g c =
