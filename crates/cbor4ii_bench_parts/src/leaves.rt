@@ -40,41 +40,134 @@ pub trait Leaf: Serialize + Drop {
 /// A vector of leaves, or why there is none.
 type Leaves<T, S> = Result<Vec<T>, DecodeError<<S as Source>::Error>>;
 
-/// Kinds of leaves: any one of each, and its number.
-macro_rules! leaves {
-    ($($type:ty: |$noise:ident| $any:expr, |$leaf:ident| $number:expr;)*) => {
-        $(impl Leaf for $type {
-            fn any($noise: &mut Noise) -> $type {
-                $any
-            }
+impl Leaf for u8 {
+    fn any(noise: &mut Noise) -> u8 {
+        noise.below(255) as u8
+    }
 
-            fn number(&self) -> u64 {
-                let $leaf = self;
-                $number
-            }
+    fn number(&self) -> u64 {
+        *self as u64
+    }
 
-            fn read<S: Source>(alloc: Global, de: &mut Deserializer<S>) -> Leaves<$type, S> {
-                Vec::deserialize(alloc, de)
-            }
-        })*
-    };
+    fn read<S: Source>(alloc: Global, de: &mut Deserializer<S>) -> Leaves<u8, S> {
+        Vec::deserialize(alloc, de)
+    }
 }
 
-leaves! {
-    u8: |noise| noise.below(255) as u8, |leaf| *leaf as u64;
-    u16: |noise| noise.below(65_535) as u16, |leaf| *leaf as u64;
-    i8: |noise| {
+impl Leaf for u16 {
+    fn any(noise: &mut Noise) -> u16 {
+        noise.below(65_535) as u16
+    }
+
+    fn number(&self) -> u64 {
+        *self as u64
+    }
+
+    fn read<S: Source>(alloc: Global, de: &mut Deserializer<S>) -> Leaves<u16, S> {
+        Vec::deserialize(alloc, de)
+    }
+}
+
+impl Leaf for i8 {
+    fn any(noise: &mut Noise) -> i8 {
         let number = noise.below(127) as i8;
-        if noise.below(2) == 0 { number } else { -1 - number }
-    }, |leaf| if *leaf < 0 { (-1 - *leaf) as u64 } else { *leaf as u64 };
-    i16: |noise| {
+        if noise.below(2) == 0 {
+            number
+        } else {
+            -1 - number
+        }
+    }
+
+    fn number(&self) -> u64 {
+        if *self < 0 {
+            (-1 - *self) as u64
+        } else {
+            *self as u64
+        }
+    }
+
+    fn read<S: Source>(alloc: Global, de: &mut Deserializer<S>) -> Leaves<i8, S> {
+        Vec::deserialize(alloc, de)
+    }
+}
+
+impl Leaf for i16 {
+    fn any(noise: &mut Noise) -> i16 {
         let number = noise.below(32_767) as i16;
-        if noise.below(2) == 0 { number } else { -1 - number }
-    }, |leaf| if *leaf < 0 { (-1 - *leaf) as u64 } else { *leaf as u64 };
-    bool: |noise| noise.below(2) == 0, |leaf| u64::from(*leaf);
-    F16: |noise| F16(noise.below(65_535) as u16), |leaf| leaf.0 as u64;
-    F32: |noise| F32((noise.any() >> 32) as u32), |leaf| leaf.0 as u64;
-    F64: |noise| F64(noise.any()), |leaf| leaf.0;
+        if noise.below(2) == 0 {
+            number
+        } else {
+            -1 - number
+        }
+    }
+
+    fn number(&self) -> u64 {
+        if *self < 0 {
+            (-1 - *self) as u64
+        } else {
+            *self as u64
+        }
+    }
+
+    fn read<S: Source>(alloc: Global, de: &mut Deserializer<S>) -> Leaves<i16, S> {
+        Vec::deserialize(alloc, de)
+    }
+}
+
+impl Leaf for bool {
+    fn any(noise: &mut Noise) -> bool {
+        noise.below(2) == 0
+    }
+
+    fn number(&self) -> u64 {
+        u64::from(*self)
+    }
+
+    fn read<S: Source>(alloc: Global, de: &mut Deserializer<S>) -> Leaves<bool, S> {
+        Vec::deserialize(alloc, de)
+    }
+}
+
+impl Leaf for F16 {
+    fn any(noise: &mut Noise) -> F16 {
+        F16(noise.below(65_535) as u16)
+    }
+
+    fn number(&self) -> u64 {
+        self.0 as u64
+    }
+
+    fn read<S: Source>(alloc: Global, de: &mut Deserializer<S>) -> Leaves<F16, S> {
+        Vec::deserialize(alloc, de)
+    }
+}
+
+impl Leaf for F32 {
+    fn any(noise: &mut Noise) -> F32 {
+        F32((noise.any() >> 32) as u32)
+    }
+
+    fn number(&self) -> u64 {
+        self.0 as u64
+    }
+
+    fn read<S: Source>(alloc: Global, de: &mut Deserializer<S>) -> Leaves<F32, S> {
+        Vec::deserialize(alloc, de)
+    }
+}
+
+impl Leaf for F64 {
+    fn any(noise: &mut Noise) -> F64 {
+        F64(noise.any())
+    }
+
+    fn number(&self) -> u64 {
+        self.0
+    }
+
+    fn read<S: Source>(alloc: Global, de: &mut Deserializer<S>) -> Leaves<F64, S> {
+        Vec::deserialize(alloc, de)
+    }
 }
 
 /// A type of its own, so that what is written to it is compiled apart from what other works write.

@@ -116,4 +116,4 @@ fn read_struct<S: Source>(
 }
 
 #[cfg(test)]
-mod tests;
+pub(crate) mod tests;

@@ -148,4 +148,4 @@ impl AsDescribed for Event {
 }
 
 #[cfg(test)]
-mod tests;
+pub(crate) mod tests;

@@ -59,6 +59,8 @@ pub mod port;
 pub mod raw_items;
 pub mod reading;
 #[cfg(test)]
+mod recipes;
+#[cfg(test)]
 mod rejected;
 pub mod reply;
 pub mod sample;

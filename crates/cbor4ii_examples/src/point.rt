@@ -99,4 +99,4 @@ fn numbers_are_in_range(x: u32, y: Option<i32>)
 {}
 
 #[cfg(test)]
-mod tests;
+pub(crate) mod tests;

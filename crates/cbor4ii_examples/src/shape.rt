@@ -287,4 +287,4 @@ fn framed(alloc: Global, frame: Frame) -> Result<Shape, Unmade>
 }
 
 #[cfg(test)]
-mod tests;
+pub(crate) mod tests;

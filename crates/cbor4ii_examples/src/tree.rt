@@ -212,4 +212,4 @@ fn made(found: Found) -> Result<Tree, Unmade>
 }
 
 #[cfg(test)]
-mod tests;
+pub(crate) mod tests;

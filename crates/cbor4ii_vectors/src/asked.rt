@@ -1,7 +1,7 @@
 //! What reading asks of a reader: how often it looks, how many bytes a look wants, and how many
 //! have to have come where the reader waits for all that is wanted.
 use crate::readers::{Asked, Asks, Failure};
-use crate::rows::{ByType, ReadFrom, WayOverAny, leaves};
+use crate::rows::{ByType, ReadFrom, Way, leaves};
 use cbor4ii_rw::error::{DecodeError, Never};
 use std::alloc::Global;
 use std::test::Fail;
@@ -12,21 +12,21 @@ pub const WINDOWS: [usize; 6] = [2, 8, 9, 24, 256, 257];
 
 /// How the reader is asked: whether the bytes are read, and what it was asked for. It fails
 /// nowhere.
-pub fn asks<T: ReadFrom + Drop>(
+pub fn asks<T: ReadFrom>(
     alloc: Global,
-    reader: Asked<'_>,
+    reader: Asked<'static>,
     bytes: &[u8],
 ) -> Result<(bool, Asks), Fail> {
     asks_by::<T, _>(&ByType, alloc, reader, bytes)
 }
 
-fn asks_by<T: Drop, R: WayOverAny<T>>(
+fn asks_by<T: Drop, R: Way<T, Asked<'static>>>(
     how: &R,
     alloc: Global,
-    mut reader: Asked<'_>,
+    reader: Asked<'static>,
     bytes: &[u8],
 ) -> Result<(bool, Asks), Fail> {
-    let got = how.read_any(alloc, &mut reader);
+    let (got, mut reader) = how.read(alloc, reader);
     let asks = reader.asks();
     match got {
         Ok(_) => {
@@ -43,9 +43,9 @@ fn asks_by<T: Drop, R: WayOverAny<T>>(
 
 /// The reader is asked for no more than so many looks, and so many bytes have to have come at the
 /// most. The bytes are read, or they are not.
-pub fn looks_at_most<T: ReadFrom + Drop>(
+pub fn looks_at_most<T: ReadFrom>(
     alloc: Global,
-    reader: Asked<'_>,
+    reader: Asked<'static>,
     bytes: &[u8],
     is_read: bool,
     looks: usize,
@@ -55,10 +55,10 @@ pub fn looks_at_most<T: ReadFrom + Drop>(
 }
 
 /// The same where it is read in this way.
-pub fn looks_at_most_by<T: Drop, R: WayOverAny<T>>(
+pub fn looks_at_most_by<T: Drop, R: Way<T, Asked<'static>>>(
     how: &R,
     alloc: Global,
-    reader: Asked<'_>,
+    reader: Asked<'static>,
     bytes: &[u8],
     is_read: bool,
     looks: usize,
@@ -77,9 +77,9 @@ pub fn looks_at_most_by<T: Drop, R: WayOverAny<T>>(
 /// Readers of each of `WINDOWS`, which fail where a look asks for more than the greater of the
 /// window and `most`, the bytes that a look needs. They show what is wanted, or one byte at a time,
 /// and are asked for no more than so many looks. The bytes are read, or they are not.
-pub fn looks_within_windows<T: ReadFrom + Drop>(
+pub fn looks_within_windows<T: ReadFrom>(
     alloc: Global,
-    bytes: &[u8],
+    bytes: &'static [u8],
     is_read: bool,
     most: usize,
     looks: (usize, usize),
@@ -88,10 +88,10 @@ pub fn looks_within_windows<T: ReadFrom + Drop>(
 }
 
 /// The same where it is read in this way.
-pub fn looks_within_windows_by<T: Drop, R: WayOverAny<T>>(
+pub fn looks_within_windows_by<T: Drop, R: Way<T, Asked<'static>>>(
     how: &R,
     alloc: Global,
-    bytes: &[u8],
+    bytes: &'static [u8],
     is_read: bool,
     most: usize,
     (looks, by_byte): (usize, usize),

@@ -5,6 +5,7 @@
 use crate::readers::{Failure, TestReader};
 use crate::streams::{FailingSink, FailingStream};
 use crate::writers::{FailingWriter, PushLengths};
+use cbor4ii_items::decode::{Decodable, Decode};
 use cbor4ii_items::encode::Encode;
 use cbor4ii_rw::ask::look;
 use cbor4ii_rw::buf_writer::BufWriter;
@@ -16,6 +17,7 @@ use cbor4ii_rw::segment_reader::SegmentReader;
 use cbor4ii_rw::slice_reader::SliceReader;
 use cbor4ii_rw::write::Write;
 use std::alloc::{AllocError, Global};
+use std::borrow::{CowSlice, CowStr};
 use std::fmt::{Debug, InlineText};
 use std::io::ErrorKind;
 use std::marker::PhantomData;
@@ -60,7 +62,7 @@ const ABOUT_A_LOOK: [usize; 3] = [4_095, 4_096, 4_097];
 /// What a row reads: a value, or what another call takes off a reader.
 ///
 /// That it is read is proved once, over any reader, and a test of its rows asks no more of it.
-pub trait ReadFrom: Sized {
+pub trait ReadFrom: Debug + Drop + Sized {
     /// Reads it from the beginning of what `reader` has left.
     fn read_from<S: Source>(alloc: Global, reader: &mut S) -> Result<Self, DecodeError<S::Error>>;
 }
@@ -76,21 +78,6 @@ impl<S: Source, T: ReadFrom> ReadBy<S> for T {
         T::read_from(alloc, reader)
     }
 }
-
-/// What is read off each reader that a row is tried over. Of what is read off any reader a test
-/// asks `ReadFrom`, which costs its proof less.
-pub trait ReadByEach: ReadBy<SliceReader<'static>>
-    + ReadBy<SegmentReader<'static>>
-    + ReadBy<TestReader<'static>>
-    + ReadBy<Stream> {}
-
-impl<T> ReadByEach for T
-where
-    T: ReadBy<SliceReader<'static>>
-        + ReadBy<SegmentReader<'static>>
-        + ReadBy<TestReader<'static>>
-        + ReadBy<Stream>,
-{}
 
 /// Calls that differ by their names, so that one table has rows of several of them, and one
 /// function is proved for all.
@@ -116,18 +103,35 @@ pub fn says<T: Debug + Drop, E>(
     }
 }
 
+/// What is read off a reader, and that reader.
+pub type Answered<T, S> = (Result<T, DecodeError<<S as Source>::Error>>, S);
+
 /// How what a row wants is read off one reader.
 pub trait Way<T, S: Source> {
     /// Reads it from the beginning of what `reader` has left.
-    fn read(&self, alloc: Global, reader: &mut S) -> Result<T, DecodeError<S::Error>>;
+    fn read(&self, alloc: Global, reader: S) -> Answered<T, S>;
 }
 
 /// By its type.
+#[derive(Drop)]
 pub struct ByType;
 
 impl<S: Source, T: ReadBy<S>> Way<T, S> for ByType {
-    fn read(&self, alloc: Global, reader: &mut S) -> Result<T, DecodeError<S::Error>> {
-        T::read_by(alloc, reader)
+    fn read(&self, alloc: Global, mut reader: S) -> Answered<T, S> {
+        let got = T::read_by(alloc, &mut reader);
+        (got, reader)
+    }
+}
+
+/// By its type: the `Debug` text of its value, so that a row of values that have to be built is a
+/// plain constant.
+#[derive(Drop)]
+struct ByText<T>(PhantomData<T>);
+
+impl<S: Source, T: ReadBy<S> + Debug + Drop> Way<String, S> for ByText<T> {
+    fn read(&self, alloc: Global, mut reader: S) -> Answered<String, S> {
+        let got = says(alloc, T::read_by(alloc, &mut reader));
+        (got, reader)
     }
 }
 
@@ -141,69 +145,61 @@ pub struct ByName<C> {
 impl<C> ByName<C> {
     /// The call of this name.
     pub fn new(alloc: Global, name: &str) -> Result<ByName<C>, AllocError> {
-        let of = PhantomData;
-        Ok(ByName {
-            name: String::from_str(alloc, name)?,
-            of,
-        })
+        let (name, of) = (String::from_str(alloc, name)?, PhantomData);
+        Ok(ByName { name, of })
     }
 }
 
 impl<S: Source, C: Calls> Way<String, S> for ByName<C> {
-    fn read(&self, alloc: Global, reader: &mut S) -> Result<String, DecodeError<S::Error>> {
-        C::call(self.name.as_str(), alloc, reader)
+    fn read(&self, alloc: Global, mut reader: S) -> Answered<String, S> {
+        let got = C::call(self.name.as_str(), alloc, &mut reader);
+        (got, reader)
     }
 }
 
-/// How what a row wants is read off any reader.
-pub trait WayOverAny<T> {
-    /// Reads it from the beginning of what `reader` has left.
-    fn read_any<S: Source>(
-        &self,
-        alloc: Global,
-        reader: &mut S,
-    ) -> Result<T, DecodeError<S::Error>>;
+/// The content of a string, and whether it is borrowed.
+#[derive(Debug, PartialEq, Drop)]
+pub struct Content {
+    bytes: Vec<u8>,
+    is_borrowed: bool,
 }
 
-impl<T: ReadFrom> WayOverAny<T> for ByType {
-    fn read_any<S: Source>(
-        &self,
+impl Content {
+    /// These bytes, borrowed or owned.
+    pub fn new(alloc: Global, bytes: &[u8], is_borrowed: bool) -> Result<Content, AllocError> {
+        let bytes = bytes.to_vec(alloc)?;
+        Ok(Content { bytes, is_borrowed })
+    }
+
+    /// What was read, or want of memory.
+    pub fn of<E>(
         alloc: Global,
-        reader: &mut S,
-    ) -> Result<T, DecodeError<S::Error>> {
-        T::read_from(alloc, reader)
+        content: CowSlice<'_, u8, Global>,
+    ) -> Result<Content, DecodeError<E>> {
+        let content = match content {
+            CowSlice::Borrowed(bytes) => Content::new(alloc, bytes, true),
+            CowSlice::Owned(bytes) => Content::new(alloc, &bytes, false),
+        };
+        match content {
+            Ok(content) => Ok(content),
+            Err(_) => Err(DecodeError::OutOfMemory),
+        }
+    }
+
+    /// The same of a text.
+    pub fn of_text<E>(alloc: Global, text: CowStr<'_, Global>) -> Result<Content, DecodeError<E>> {
+        match text {
+            CowStr::Borrowed(text) => Content::of(alloc, CowSlice::Borrowed(text.as_bytes())),
+            CowStr::Owned(text) => Content::of(alloc, CowSlice::Owned(text.into_bytes())),
+        }
     }
 }
-
-impl<C: Calls> WayOverAny<String> for ByName<C> {
-    fn read_any<S: Source>(
-        &self,
-        alloc: Global,
-        reader: &mut S,
-    ) -> Result<String, DecodeError<S::Error>> {
-        C::call(self.name.as_str(), alloc, reader)
-    }
-}
-
-/// How it is read off each reader that a row is tried over.
-pub trait WayOverEach<T>: Way<T, SliceReader<'static>>
-    + Way<T, SegmentReader<'static>>
-    + Way<T, TestReader<'static>>
-    + Way<T, Stream> {}
-
-impl<T, R> WayOverEach<T> for R
-where
-    R: Way<T, SliceReader<'static>>
-        + Way<T, SegmentReader<'static>>
-        + Way<T, TestReader<'static>>
-        + Way<T, Stream>,
-{}
 
 /// One after the other.
 #[derive(Debug, PartialEq, Drop)]
 pub struct Pair<A, B>(pub A, pub B);
 
-impl<A: ReadFrom + Drop, B: ReadFrom> ReadFrom for Pair<A, B> {
+impl<A: ReadFrom, B: ReadFrom> ReadFrom for Pair<A, B> {
     fn read_from<S: Source>(
         alloc: Global,
         reader: &mut S,
@@ -213,137 +209,367 @@ impl<A: ReadFrom + Drop, B: ReadFrom> ReadFrom for Pair<A, B> {
     }
 }
 
+/// A row on trial: how it is read, its bytes, how many steps there are, what the bytes are read as,
+/// and what is left of them.
+#[derive(Drop)]
+pub struct Trial<'a, T, R> {
+    how: &'a R,
+    alloc: Global,
+    bytes: &'static [u8],
+    limit: usize,
+    want: &'a Want<T>,
+    rest: &'a [u8],
+}
+
+impl<'a, T, R> Trial<'a, T, R> {
+    /// A row with the steps of a reader that is given no other limit.
+    pub fn new(
+        how: &'a R,
+        alloc: Global,
+        bytes: &'static [u8],
+        want: &'a Want<T>,
+        rest: &'a [u8],
+    ) -> Trial<'a, T, R> {
+        Trial {
+            how,
+            alloc,
+            bytes,
+            limit: STEPS,
+            want,
+            rest,
+        }
+    }
+
+    /// With so many steps.
+    pub fn within(self, limit: usize) -> Trial<'a, T, R> {
+        Trial { limit, ..self }
+    }
+
+    // What the row takes of its bytes, alone.
+    fn item(&self) -> Trial<'_, T, R> {
+        let bytes = &self.bytes[..self.bytes.len().saturating_sub(self.rest.len())];
+        Trial {
+            bytes,
+            rest: b"",
+            ..*self
+        }
+    }
+}
+
+// Over each reader that a row is tried over.
+impl<T, R> Trial<'_, T, R>
+where
+    T: PartialEq + Debug + Drop,
+    R: Way<T, SliceReader<'static>>
+        + Way<T, SegmentReader<'static>>
+        + Way<T, TestReader<'static>>
+        + Way<T, Stream>,
+{
+    /// Over each reader: the same answer, and the same bytes left. It is no matter whether borrowed
+    /// slices are lent.
+    pub fn over_each(&self) -> Result<(), Fail> {
+        self.over_each_that_counts()?;
+        self.over(TestReader::unlimited(self.bytes))
+    }
+
+    /// Over each reader that counts its steps.
+    pub fn over_each_that_counts(&self) -> Result<(), Fail> {
+        self.over_each_whole()?;
+        self.in_segments()?;
+        self.failing_at_each_show(Shown::ByByte, true)?;
+        self.failing_at_each_show(Shown::Whole, true)?;
+        self.failing_at_each_look(2, true)?;
+        self.item().asks_nothing_after()
+    }
+
+    /// Over each reader, with no fault and in one piece.
+    pub fn over_each_whole(&self) -> Result<(), Fail> {
+        self.over(SliceReader::with_limit(self.bytes, self.limit))?;
+        self.over(TestReader::long(self.bytes, self.limit))?;
+        self.over(TestReader::whole(self.bytes, self.limit))?;
+        self.over(TestReader::in_turn(self.bytes, self.limit))?;
+        self.over_short()
+    }
+
+    // Over two segments, for each place where the bytes can be cut.
+    fn in_segments(&self) -> Result<(), Fail> {
+        for place in 1..self.bytes.len().min(MOST_CUTS) {
+            self.in_two_segments(place)?;
+        }
+        Ok(())
+    }
+
+    // Over readers that end what they show at about as many bytes as one look may ask for: a slice,
+    // two segments that are cut there, and streams that show so many at a time.
+    fn around_a_look(&self) -> Result<(), Fail> {
+        self.over(SliceReader::with_limit(self.bytes, STEPS))?;
+        for shown in ABOUT_A_LOOK {
+            self.in_two_segments(shown)?;
+            self.over(stream(self.bytes, shown, usize::MAX, STEPS))?;
+        }
+        Ok(())
+    }
+
+    /// Lent over each zero-copy reader, with a fault at each place too, also by bytes, where the
+    /// answer may be another.
+    pub fn lent(&self) -> Result<(), Fail> {
+        self.over(SliceReader::with_limit(self.bytes, self.limit))?;
+        self.over(TestReader::unlimited(self.bytes))?;
+        self.over(TestReader::whole(self.bytes, self.limit))?;
+        self.failing_at_each_show(Shown::ByByte, false)?;
+        self.failing_at_each_show(Shown::LentByByte, false)?;
+        self.failing_at_each_show(Shown::Whole, true)?;
+        self.failing_at_each_look(2, false)
+    }
+
+    /// Lent, and the item of the row that is read, alone, over readers that fail or wait where more
+    /// is asked of them than it has.
+    pub fn lent_and_alone(&self) -> Result<(), Fail> {
+        self.lent()?;
+        self.item().asks_whole_nothing_after()
+    }
+}
+
+// Over readers whose bytes do not outlive the fill.
+impl<T, R> Trial<'_, T, R>
+where
+    T: PartialEq + Debug + Drop,
+    R: Way<T, TestReader<'static>> + Way<T, Stream>,
+{
+    /// Over readers whose bytes do not outlive the fill, with a fault at each place too.
+    pub fn copied(&self) -> Result<(), Fail> {
+        self.over_short()?;
+        self.failing_at_each_show(Shown::ByByte, true)?;
+        self.failing_at_each_look(2, true)
+    }
+
+    // One that shows a byte at a time, and streams that show one at a time and all that is left.
+    fn over_short(&self) -> Result<(), Fail> {
+        self.over(TestReader::short(self.bytes, self.limit))?;
+        self.over(stream(self.bytes, 1, usize::MAX, self.limit))?;
+        self.over(stream(self.bytes, usize::MAX, usize::MAX, self.limit))
+    }
+
+    /// Over a reader that shows bytes so and fails at the first show, at the second, and so on until
+    /// none is left to fail. It forgets what is left or does not. Where it does not fail the answer
+    /// is compared, or not.
+    pub fn failing_at_each_show(&self, shown: Shown, is_compared: bool) -> Result<(), Fail> {
+        for shows in 0..MOST_CALLS {
+            let forgetting = failing(self.bytes, self.limit, shown, shows).forgetting();
+            let has_forgotten = self.fails(forgetting, is_compared)?;
+            let reader = failing(self.bytes, self.limit, shown, shows);
+            if !self.fails(reader, is_compared)? && !has_forgotten {
+                return Ok(());
+            }
+        }
+        Err(Fail::new(format_args!("too many shows of {:?}", self.bytes)))
+    }
+
+    // Whether the reader failed. Then the answer is its error, and else what is wanted, if it is
+    // compared. An end of the bytes is left, and the budget is as before.
+    fn fails(&self, reader: TestReader<'static>, is_compared: bool) -> Result<bool, Fail> {
+        let limit = reader.steps();
+        let (got, reader) = self.how.read(self.alloc, reader);
+        let is_read = matches!(got, Err(DecodeError::Read(Failure)));
+        let is_kept = is_read == (reader.failures() == 1)
+            && reader.steps() == limit
+            && self.bytes.ends_with(reader.remaining());
+        if !is_kept {
+            return Err(Fail::new(format_args!("{got:?} where a show fails, of {:?}", self.bytes)));
+        }
+        if is_compared && !is_read {
+            is_same(got, self.bytes, self.want)?;
+        }
+        Ok(is_read)
+    }
+
+    // An item, over readers that fail in the place of showing that nothing is left: the answer is
+    // the same, since an item says itself where it ends. A row that takes no byte is no such row,
+    // since what follows may say what it is.
+    fn asks_nothing_after(&self) -> Result<(), Fail> {
+        if self.want.is_err() || self.bytes.is_empty() {
+            return Ok(());
+        }
+        self.asks_whole_nothing_after()?;
+        self.answered_by(TestReader::short(self.bytes, self.limit).failing_at_end())?;
+        self.answered_by(TestReader::short(self.bytes, self.limit).waiting())?;
+        for most in [1, usize::MAX] {
+            let stream = FailingStream::new(self.bytes, most, usize::MAX).failing_at_end();
+            self.answered_by(IoReader::with_limit(stream, self.limit))?;
+        }
+        Ok(())
+    }
+
+    /// The item of a row that is read, alone, over a reader that waits for all that is wanted: no
+    /// look asks for a byte that it does not need.
+    pub fn waits_for_nothing_after(&self) -> Result<(), Fail> {
+        if self.want.is_err() {
+            return Ok(());
+        }
+        let item = self.item();
+        item.answered_by(TestReader::wanted(item.bytes, item.limit).waiting())
+    }
+
+    // An item, over readers that show all that is left, or what is wanted. They fail, or wait, where
+    // it is not enough: no look asks for a byte that the item does not need, and it is read.
+    fn asks_whole_nothing_after(&self) -> Result<(), Fail> {
+        if self.want.is_err() {
+            return Ok(());
+        }
+        self.answered_by(TestReader::whole(self.bytes, self.limit).failing_at_end())?;
+        self.answered_by(TestReader::whole(self.bytes, self.limit).waiting())?;
+        self.answered_by(TestReader::wanted(self.bytes, self.limit).waiting())
+    }
+}
+
+impl<T: PartialEq + Debug + Drop, R> Trial<'_, T, R> {
+    /// Over this reader: the answer, what is left, and the steps as before.
+    pub fn over<S: Source + Drop>(&self, mut reader: S) -> Result<(), Fail>
+    where
+        R: Way<T, S>,
+    {
+        let budget = steps(&mut reader);
+        let (got, mut reader) = self.how.read(self.alloc, reader);
+        keeps(self.alloc, &got, &mut reader, budget, self.bytes)?;
+        is_same(got, self.bytes, self.want)?;
+        leaves(&mut reader, self.bytes, self.rest)
+    }
+
+    // Over this reader, of which nothing else is asked: the answer.
+    fn answered_by<S: Source + Drop>(&self, reader: S) -> Result<(), Fail>
+    where
+        R: Way<T, S>,
+    {
+        is_same(self.how.read(self.alloc, reader).0, self.bytes, self.want)
+    }
+
+    /// Over two segments, which are cut at this place. They stay for good.
+    pub fn in_two_segments(&self, place: usize) -> Result<(), Fail>
+    where
+        R: Way<T, SegmentReader<'static>>,
+    {
+        let (first, second) = self.bytes.split_at(place.min(self.bytes.len()));
+        let segments = vec![in self.alloc; first, second]?.leak();
+        self.over(SegmentReader::with_limit(segments, self.limit))
+    }
+
+    /// Over a stream that shows at most so many bytes at a time, and fails at the first look, at the
+    /// second, and so on until none is left to fail. Where it does not fail the answer is compared,
+    /// or not.
+    pub fn failing_at_each_look(&self, most: usize, is_compared: bool) -> Result<(), Fail>
+    where
+        R: Way<T, Stream>,
+    {
+        for looks in 0..MOST_CALLS {
+            if !self.fails_at_look(most, looks, is_compared)? {
+                return Ok(());
+            }
+        }
+        Err(Fail::new(format_args!("too many looks of {:?}", self.bytes)))
+    }
+
+    // Whether the stream failed. Then the answer is its error, and else what is wanted, if it is
+    // compared. The budget is as before, and the reader over the stream takes of it what it took,
+    // and no byte more.
+    fn fails_at_look(&self, most: usize, looks: usize, is_compared: bool) -> Result<bool, Fail>
+    where
+        R: Way<T, Stream>,
+    {
+        let mut reader = stream(self.bytes, most, looks, self.limit);
+        let budget = steps(&mut reader);
+        let (got, mut reader) = self.how.read(self.alloc, reader);
+        let is_read = matches!(
+            &got,
+            Err(DecodeError::Read(error)) if error.kind() == ErrorKind::Other
+        );
+        let is_kept = steps(&mut reader) == budget;
+        let taken = reader.taken() as usize;
+        let stream = reader.into_inner();
+        let is_left = self.bytes.get(taken..) == Some(stream.remaining());
+        if !is_kept || !is_left || is_read != stream.has_failed() {
+            let bytes = self.bytes;
+            return Err(Fail::new(format_args!("{got:?} where look {looks} fails, of {bytes:?}")));
+        }
+        if is_compared && !is_read {
+            is_same(got, self.bytes, self.want)?;
+        }
+        Ok(is_read)
+    }
+}
+
 /// Reads the bytes of each row over each reader: the same answer, and the same bytes left.
 ///
-/// Each type costs the proof of a function that tries it some tenths of a second, so rows of one
-/// type stand together.
-pub fn reads_rows<T>(alloc: Global, rows: &[Row<T>]) -> Result<(), Fail>
-where
-    T: ReadFrom + PartialEq + Debug + Drop,
-{
+/// Each type costs the proof of a function that tries it some seconds, so rows of one type stand
+/// together, and those of many types name a call.
+pub fn reads_rows<T: ReadFrom + PartialEq>(alloc: Global, rows: &[Row<T>]) -> Result<(), Fail> {
     for (bytes, want, rest) in rows {
-        reads_alike(alloc, bytes, want, rest)?;
+        Trial::new(&ByType, alloc, bytes, want, rest).over_each()?;
     }
     Ok(())
 }
 
 /// Reads the bytes over each reader: the same answer, and the same bytes left.
-pub fn reads<T>(alloc: Global, bytes: &'static [u8], want: Want<T>, rest: &[u8]) -> Result<(), Fail>
-where
-    T: ReadFrom + PartialEq + Debug + Drop,
-{
-    reads_alike(alloc, bytes, &want, rest)
+pub fn reads<T: ReadFrom + PartialEq>(
+    alloc: Global,
+    bytes: &'static [u8],
+    want: Want<T>,
+    rest: &[u8],
+) -> Result<(), Fail> {
+    Trial::new(&ByType, alloc, bytes, &want, rest).over_each()
 }
 
 /// Reads the bytes of each row within its limit, over each reader that counts its steps.
-pub fn reads_rows_within<T>(alloc: Global, rows: &[RowWithin<T>]) -> Result<(), Fail>
-where
-    T: ReadFrom + PartialEq + Debug + Drop,
-{
+pub fn reads_rows_within<T: ReadFrom + PartialEq>(
+    alloc: Global,
+    rows: &[RowWithin<T>],
+) -> Result<(), Fail> {
     for (bytes, limit, want, rest) in rows {
-        reads_each_within(&ByType, alloc, bytes, *limit, want, rest)?;
+        reads_within(alloc, bytes, *limit, want, rest)?;
     }
     Ok(())
 }
 
 /// Reads the bytes over each reader that counts its steps, with so many of them.
-pub fn reads_within<T>(
+pub fn reads_within<T: ReadFrom + PartialEq>(
     alloc: Global,
     bytes: &'static [u8],
     limit: usize,
     want: &Want<T>,
     rest: &[u8],
-) -> Result<(), Fail>
-where
-    T: ReadFrom + PartialEq + Debug + Drop,
-{
-    reads_each_within(&ByType, alloc, bytes, limit, want, rest)
+) -> Result<(), Fail> {
+    Trial::new(&ByType, alloc, bytes, want, rest)
+        .within(limit)
+        .over_each_that_counts()
 }
 
 /// Reads a row of many bytes over each reader with so many steps, in one piece and with no fault.
-pub fn reads_by_each<T>(
+pub fn reads_by_each<T: ReadFrom + PartialEq>(
     alloc: Global,
     bytes: &'static [u8],
     limit: usize,
     want: &Want<T>,
     rest: &[u8],
-) -> Result<(), Fail>
-where
-    T: ReadFrom + PartialEq + Debug + Drop,
-{
-    reads_whole(&ByType, alloc, bytes, limit, want, rest)
+) -> Result<(), Fail> {
+    Trial::new(&ByType, alloc, bytes, want, rest)
+        .within(limit)
+        .over_each_whole()
 }
 
 /// Reads all of the bytes over readers that end what they show at about as many bytes as one look
 /// may ask for: a slice, two segments that are cut there, and streams that show so many at a time.
-pub fn reads_around_a_look<T>(
+pub fn reads_around_a_look<T: ReadFrom + PartialEq>(
     alloc: Global,
     bytes: &'static [u8],
     want: &Want<T>,
-) -> Result<(), Fail>
-where
-    T: ReadFrom + PartialEq + Debug + Drop,
-{
-    around_a_look(&ByType, alloc, bytes, want)
-}
-
-fn around_a_look<T, R>(
-    how: &R,
-    alloc: Global,
-    bytes: &'static [u8],
-    want: &Want<T>,
-) -> Result<(), Fail>
-where
-    T: PartialEq + Debug + Drop,
-    R: WayOverEach<T>,
-{
-    let mut slice = SliceReader::with_limit(bytes, STEPS);
-    over(how, alloc, &mut slice, bytes, want, b"")?;
-    for shown in ABOUT_A_LOOK {
-        let (first, second) = bytes.split_at(shown.min(bytes.len()));
-        let segments = vec![in alloc; first, second]?.leak();
-        let mut reader = SegmentReader::with_limit(segments, STEPS);
-        over(how, alloc, &mut reader, bytes, want, b"")?;
-        let mut stream = stream(bytes, shown, usize::MAX, STEPS);
-        over(how, alloc, &mut stream, bytes, want, b"")?;
-    }
-    Ok(())
-}
-
-/// Reads the bytes over each reader: it is no matter whether borrowed slices are lent.
-pub fn reads_alike<T>(
-    alloc: Global,
-    bytes: &'static [u8],
-    want: &Want<T>,
-    rest: &[u8],
-) -> Result<(), Fail>
-where
-    T: ReadByEach + PartialEq + Debug + Drop,
-{
-    reads_each(&ByType, alloc, bytes, want, rest)
-}
-
-fn reads_each<T, R>(
-    how: &R,
-    alloc: Global,
-    bytes: &'static [u8],
-    want: &Want<T>,
-    rest: &[u8],
-) -> Result<(), Fail>
-where
-    T: PartialEq + Debug + Drop,
-    R: WayOverEach<T>,
-{
-    reads_each_within(how, alloc, bytes, STEPS, want, rest)?;
-    let mut unlimited = TestReader::unlimited(bytes);
-    over(how, alloc, &mut unlimited, bytes, want, rest)
+) -> Result<(), Fail> {
+    Trial::new(&ByType, alloc, bytes, want, b"").around_a_look()
 }
 
 /// Makes the call of each row over each reader.
 pub fn calls_rows<C: Calls>(alloc: Global, rows: &[Called]) -> Result<(), Fail> {
     for (name, bytes, want, rest) in rows {
-        let how = ByName::<C>::new(alloc, name)?;
-        reads_each(&how, alloc, bytes, &text_of(alloc, want)?, rest)?;
+        let want = text_of(alloc, want)?;
+        Trial::new(&ByName::<C>::new(alloc, name)?, alloc, bytes, &want, rest).over_each()?;
     }
     Ok(())
 }
@@ -351,8 +577,10 @@ pub fn calls_rows<C: Calls>(alloc: Global, rows: &[Called]) -> Result<(), Fail> 
 /// Makes the call of each row within its limit, over each reader that counts its steps.
 pub fn calls_rows_within<C: Calls>(alloc: Global, rows: &[CalledWithin]) -> Result<(), Fail> {
     for (name, bytes, limit, want, rest) in rows {
-        let how = ByName::<C>::new(alloc, name)?;
-        reads_each_within(&how, alloc, bytes, *limit, &text_of(alloc, want)?, rest)?;
+        let (how, want) = (ByName::<C>::new(alloc, name)?, text_of(alloc, want)?);
+        Trial::new(&how, alloc, bytes, &want, rest)
+            .within(*limit)
+            .over_each_that_counts()?;
     }
     Ok(())
 }
@@ -360,8 +588,10 @@ pub fn calls_rows_within<C: Calls>(alloc: Global, rows: &[CalledWithin]) -> Resu
 /// Makes the call of a row of many bytes over each reader, in one piece and with no fault.
 pub fn call_by_each<C: Calls>(alloc: Global, row: &CalledWithin) -> Result<(), Fail> {
     let (name, bytes, limit, want, rest) = row;
-    let how = ByName::<C>::new(alloc, name)?;
-    reads_whole(&how, alloc, bytes, *limit, &text_of(alloc, want)?, rest)
+    let (how, want) = (ByName::<C>::new(alloc, name)?, text_of(alloc, want)?);
+    Trial::new(&how, alloc, bytes, &want, rest)
+        .within(*limit)
+        .over_each_whole()
 }
 
 /// Makes the call over the readers of `reads_around_a_look`: what it reads has this text.
@@ -372,208 +602,47 @@ pub fn call_around_a_look<C: Calls>(
     text: &str,
 ) -> Result<(), Fail> {
     let want = Ok(String::from_str(alloc, text)?);
-    around_a_look(&ByName::<C>::new(alloc, name)?, alloc, bytes, &want)
+    Trial::new(&ByName::<C>::new(alloc, name)?, alloc, bytes, &want, b"").around_a_look()
 }
 
-fn text_of(alloc: Global, want: &Want<&str>) -> Result<Want<String>, AllocError> {
+/// What is read has the text that is wanted.
+pub fn text_of(alloc: Global, want: &Want<&str>) -> Result<Want<String>, AllocError> {
     match want {
         Ok(text) => Ok(Ok(String::from_str(alloc, text)?)),
         Err(rejection) => Ok(Err(rejection)),
     }
 }
 
-/// A value by its `Debug` text, so that a row of values that have to be built is a plain constant.
-#[derive(Drop)]
-#[derive_where(Debug, PartialEq)]
-pub struct ByText<T> {
-    text: String,
-    #[derive_where(skip)]
-    of: PhantomData<T>,
-}
-
-impl<T> ByText<T> {
-    fn new(text: String) -> ByText<T> {
-        let of = PhantomData;
-        ByText { text, of }
-    }
-}
-
-impl<S: Source, T: ReadBy<S> + Debug + Drop> ReadBy<S> for ByText<T> {
-    fn read_by(alloc: Global, reader: &mut S) -> Result<ByText<T>, DecodeError<S::Error>> {
-        let value = T::read_by(alloc, reader)?;
-        match format!(in alloc; "{value:?}") {
-            Ok(text) => Ok(ByText::new(text)),
-            Err(_) => Err(DecodeError::OutOfMemory),
-        }
-    }
-}
-
-/// What is read where the answer has this text.
-pub fn by_text<T>(alloc: Global, want: &Want<&str>) -> Result<Want<ByText<T>>, AllocError> {
-    match want {
-        Ok(text) => Ok(Ok(ByText::new(String::from_str(alloc, text)?))),
-        Err(rejection) => Ok(Err(rejection)),
-    }
-}
-
 /// Reads the bytes of each row over each reader: what is read has the row's `Debug` text.
-pub fn reads_texts<T>(alloc: Global, rows: &[Row<&'static str>]) -> Result<(), Fail>
-where
-    T: ReadFrom + Debug + Drop,
-{
+pub fn reads_texts<T: ReadFrom>(alloc: Global, rows: &[Row<&'static str>]) -> Result<(), Fail> {
+    let how = ByText::<T>(PhantomData);
     for (bytes, want, rest) in rows {
-        reads_alike(alloc, bytes, &by_text::<T>(alloc, want)?, rest)?;
+        Trial::new(&how, alloc, bytes, &text_of(alloc, want)?, rest).over_each()?;
     }
     Ok(())
 }
 
 /// Reads the bytes of each row within its limit, over each reader that counts its steps: what is
 /// read has the row's `Debug` text.
-pub fn reads_texts_within<T>(alloc: Global, rows: &[RowWithin<&'static str>]) -> Result<(), Fail>
-where
-    T: ReadFrom + Debug + Drop,
-{
+pub fn reads_texts_within<T: ReadFrom>(
+    alloc: Global,
+    rows: &[RowWithin<&'static str>],
+) -> Result<(), Fail> {
+    let how = ByText::<T>(PhantomData);
     for (bytes, limit, want, rest) in rows {
-        let want = by_text::<T>(alloc, want)?;
-        reads_each_within(&ByType, alloc, bytes, *limit, &want, rest)?;
+        let want = text_of(alloc, want)?;
+        let trial = Trial::new(&how, alloc, bytes, &want, rest).within(*limit);
+        trial.over_each_that_counts()?;
     }
     Ok(())
 }
 
-// Reads the bytes over each reader that counts its steps, with so many of them. It is no matter
-// whether borrowed slices are lent.
-fn reads_each_within<T, R>(
-    how: &R,
-    alloc: Global,
-    bytes: &'static [u8],
-    limit: usize,
-    want: &Want<T>,
-    rest: &[u8],
-) -> Result<(), Fail>
-where
-    T: PartialEq + Debug + Drop,
-    R: WayOverEach<T>,
-{
-    reads_whole(how, alloc, bytes, limit, want, rest)?;
-    reads_in_segments(how, alloc, bytes, limit, want, rest)?;
-    fails_at_each_show(how, alloc, bytes, limit, false, Some(want))?;
-    fails_at_each_show(how, alloc, bytes, limit, true, Some(want))?;
-    fails_at_each_look(how, alloc, bytes, limit, Some(want))?;
-    asks_nothing_after(how, alloc, item_of(bytes, rest), limit, want)
-}
-
-// Over each reader, with no fault and in one piece.
-fn reads_whole<T, R>(
-    how: &R,
-    alloc: Global,
-    bytes: &'static [u8],
-    limit: usize,
-    want: &Want<T>,
-    rest: &[u8],
-) -> Result<(), Fail>
-where
-    T: PartialEq + Debug + Drop,
-    R: WayOverEach<T>,
-{
-    let mut slice = SliceReader::with_limit(bytes, limit);
-    over(how, alloc, &mut slice, bytes, want, rest)?;
-    let mut long = TestReader::long(bytes, limit);
-    over(how, alloc, &mut long, bytes, want, rest)?;
-    let mut whole = TestReader::whole(bytes, limit);
-    over(how, alloc, &mut whole, bytes, want, rest)?;
-    let mut in_turn = TestReader::in_turn(bytes, limit);
-    over(how, alloc, &mut in_turn, bytes, want, rest)?;
-    reads_short(how, alloc, bytes, limit, want, rest)
-}
-
-// Over readers whose bytes do not outlive the fill: one that shows a byte at a time, and streams
-// that show one at a time and all that is left.
-fn reads_short<T, R>(
-    how: &R,
-    alloc: Global,
-    bytes: &'static [u8],
-    limit: usize,
-    want: &Want<T>,
-    rest: &[u8],
-) -> Result<(), Fail>
-where
-    T: PartialEq + Debug + Drop,
-    R: Way<T, TestReader<'static>> + Way<T, Stream>,
-{
-    let mut short = TestReader::short(bytes, limit);
-    over(how, alloc, &mut short, bytes, want, rest)?;
-    for most in [1, usize::MAX] {
-        let mut stream = stream(bytes, most, usize::MAX, limit);
-        over(how, alloc, &mut stream, bytes, want, rest)?;
-    }
-    Ok(())
-}
-
-// The reader over a stream that a row is tried over.
-type Stream = IoReader<FailingStream<'static>>;
+/// The reader over a stream that a row is tried over.
+pub type Stream = IoReader<FailingStream<'static>>;
 
 // A stream that shows at most so many bytes at a time, so many times before it fails.
 fn stream(bytes: &'static [u8], most: usize, looks: usize, limit: usize) -> Stream {
     IoReader::with_limit(FailingStream::new(bytes, most, looks), limit)
-}
-
-// The bytes in two segments, for each place where they can be cut. They stay for good.
-fn cuts(alloc: Global, bytes: &'static [u8]) -> Result<&'static [[&'static [u8]; 2]], AllocError> {
-    let places = bytes.len().min(MOST_CUTS);
-    let mut cuts: Vec<[&'static [u8]; 2]> = Vec::with_capacity(alloc, places)?;
-    for place in 1..places {
-        cuts.push([&bytes[..place], &bytes[place..]])?;
-    }
-    Ok(cuts.leak())
-}
-
-// Reads the bytes with so many steps over two segments, for each place where they can be cut.
-fn reads_in_segments<T, R>(
-    how: &R,
-    alloc: Global,
-    bytes: &'static [u8],
-    limit: usize,
-    want: &Want<T>,
-    rest: &[u8],
-) -> Result<(), Fail>
-where
-    T: PartialEq + Debug + Drop,
-    R: Way<T, SegmentReader<'static>>,
-{
-    for segments in cuts(alloc, bytes)? {
-        let mut reader = SegmentReader::with_limit(segments, limit);
-        over(how, alloc, &mut reader, bytes, want, rest)?;
-    }
-    Ok(())
-}
-
-/// Reads a borrowed value over each zero-copy reader: the same answer, and the same bytes left.
-pub fn lends<T>(alloc: Global, bytes: &'static [u8], want: Want<T>, rest: &[u8]) -> Result<(), Fail>
-where
-    T: ReadByEach + PartialEq + Debug + Drop,
-{
-    lends_whole(alloc, bytes, &want, rest)
-}
-
-// With a fault at each place too, also by bytes, where the answer may be another.
-fn lends_whole<T>(
-    alloc: Global,
-    bytes: &'static [u8],
-    want: &Want<T>,
-    rest: &[u8],
-) -> Result<(), Fail>
-where
-    T: ReadByEach + PartialEq + Debug + Drop,
-{
-    reads_over(alloc, &mut SliceReader::new(bytes), bytes, want, rest)?;
-    let mut unlimited = TestReader::unlimited(bytes);
-    reads_over(alloc, &mut unlimited, bytes, want, rest)?;
-    let mut whole = TestReader::whole(bytes, STEPS);
-    reads_over(alloc, &mut whole, bytes, want, rest)?;
-    fails_at_each_show::<T, _>(&ByType, alloc, bytes, STEPS, false, None)?;
-    fails_at_each_show(&ByType, alloc, bytes, STEPS, true, Some(want))?;
-    fails_at_each_look::<T, _>(&ByType, alloc, bytes, STEPS, None)?;
-    asks_whole_nothing_after(&ByType, alloc, item_of(bytes, rest), STEPS, want)
 }
 
 /// What is borrowed is rejected with so many steps, over a slice and over a zero-copy reader.
@@ -592,9 +661,9 @@ where
     let mut slice = SliceReader::with_limit(bytes, limit);
     reads_over(alloc, &mut slice, bytes, &want, bytes)?;
     for shows in 0..MOST_CALLS {
-        let forgetting = failing(bytes, limit, true, shows).forgetting();
+        let forgetting = failing(bytes, limit, Shown::Whole, shows).forgetting();
         let has_forgotten = takes_none(alloc, forgetting, bytes, &want, b"")?;
-        let reader = failing(bytes, limit, true, shows);
+        let reader = failing(bytes, limit, Shown::Whole, shows);
         if !takes_none(alloc, reader, bytes, &want, bytes)? && !has_forgotten {
             return Ok(());
         }
@@ -630,21 +699,6 @@ fn takes_none<T: ReadBy<TestReader<'static>> + PartialEq + Debug + Drop>(
     Ok(has_failed)
 }
 
-/// Reads a borrowed value over each reader whose bytes do not outlive the fill.
-pub fn lends_short<T>(
-    alloc: Global,
-    bytes: &'static [u8],
-    want: Want<T>,
-    rest: &[u8],
-) -> Result<(), Fail>
-where
-    T: ReadBy<TestReader<'static>> + ReadBy<Stream> + PartialEq + Debug + Drop,
-{
-    reads_short(&ByType, alloc, bytes, STEPS, &want, rest)?;
-    fails_at_each_show(&ByType, alloc, bytes, STEPS, false, Some(&want))?;
-    fails_at_each_look(&ByType, alloc, bytes, STEPS, Some(&want))
-}
-
 /// Reads over this reader, which holds `bytes`: the answer, the bytes left, and the steps as
 /// before.
 pub fn reads_over<T, S>(
@@ -658,23 +712,25 @@ where
     T: ReadBy<S> + PartialEq + Debug + Drop,
     S: Source,
 {
-    over(&ByType, alloc, reader, bytes, want, rest)
+    let budget = steps(reader);
+    let got = T::read_by(alloc, reader);
+    keeps(alloc, &got, reader, budget, bytes)?;
+    is_same(got, bytes, want)?;
+    leaves(reader, bytes, rest)
 }
 
-fn over<T, S, R>(
-    how: &R,
+/// Reads over this reader, which holds `bytes`: what is read has this `Debug` text.
+pub fn reads_text_over<T: Decodable + Decode<S> + Debug + Drop, S: Source>(
     alloc: Global,
     reader: &mut S,
     bytes: &[u8],
-    want: &Want<T>,
+    want: &Want<&str>,
     rest: &[u8],
-) -> Result<(), Fail>
-where
-    T: PartialEq + Debug + Drop,
-    S: Source,
-    R: Way<T, S>,
-{
-    is_same(answer(how, alloc, reader, bytes)?, bytes, want)?;
+) -> Result<(), Fail> {
+    let budget = steps(reader);
+    let got = says(alloc, T::decode(alloc, reader));
+    keeps(alloc, &got, reader, budget, bytes)?;
+    is_same(got, bytes, &text_of(alloc, want)?)?;
     leaves(reader, bytes, rest)
 }
 
@@ -682,10 +738,13 @@ where
 /// refused, an end of the bytes is left.
 pub fn reads_all<T, S>(alloc: Global, reader: &mut S, bytes: &[u8]) -> Result<T, Fail>
 where
-    T: ReadBy<S> + Drop,
+    T: Decodable + Decode<S> + Drop,
     S: Source,
 {
-    match answer::<T, S, _>(&ByType, alloc, reader, bytes)? {
+    let budget = steps(reader);
+    let got = T::decode(alloc, reader);
+    keeps(alloc, &got, reader, budget, bytes)?;
+    match got {
         Ok(value) => {
             leaves(reader, bytes, b"")?;
             Ok(value)
@@ -694,21 +753,15 @@ where
     }
 }
 
-// What is read, with the steps as before. Want of memory is the failure of the test, and leaves an
-// end of the bytes.
-fn answer<T, S, R>(
-    how: &R,
+// The steps are as before. Want of memory is the failure of the test, and leaves an end of the
+// bytes.
+fn keeps<T: Drop, S: Source>(
     alloc: Global,
+    got: &Result<T, DecodeError<S::Error>>,
     reader: &mut S,
+    budget: u16,
     bytes: &[u8],
-) -> Result<Result<T, DecodeError<S::Error>>, Fail>
-where
-    T: Drop,
-    S: Source,
-    R: Way<T, S>,
-{
-    let budget = steps(reader);
-    let got = how.read(alloc, reader);
+) -> Result<(), Fail> {
     if steps(reader) != budget {
         return Err(Fail::new(format_args!("not {budget} steps after {bytes:?}")));
     }
@@ -716,7 +769,7 @@ where
         leaves_an_end(alloc, reader, bytes)?;
         return Err(Fail::from(DecodeError::<Never>::OutOfMemory));
     }
-    Ok(got)
+    Ok(())
 }
 
 // Takes all that is left of the bytes, an end of them.
@@ -736,10 +789,11 @@ fn leaves_an_end<S: Source>(alloc: Global, reader: &mut S, bytes: &[u8]) -> Resu
 
 /// Each proper prefix of the item is the end of the input, over each reader that does not fail:
 /// nothing is left, and the steps are as before.
-pub fn ends_at_each_prefix<T>(alloc: Global, item: &'static [u8], limit: usize) -> Result<(), Fail>
-where
-    T: ReadFrom + Debug + Drop,
-{
+pub fn ends_at_each_prefix<T: ReadFrom>(
+    alloc: Global,
+    item: &'static [u8],
+    limit: usize,
+) -> Result<(), Fail> {
     ends_at_each::<T, _>(&ByType, alloc, item, limit)
 }
 
@@ -752,68 +806,55 @@ pub fn call_ends_at_each_prefix<C: Calls>(
     ends_at_each::<String, _>(&ByName::<C>::new(alloc, name)?, alloc, item, STEPS)
 }
 
-fn ends_at_each<T: Debug + Drop, R: WayOverAny<T>>(
-    how: &R,
-    alloc: Global,
-    item: &'static [u8],
-    limit: usize,
-) -> Result<(), Fail> {
+fn ends_at_each<T, R>(how: &R, alloc: Global, item: &'static [u8], limit: usize) -> Result<(), Fail>
+where
+    T: Debug + Drop,
+    R: Way<T, SliceReader<'static>>
+        + Way<T, SegmentReader<'static>>
+        + Way<T, TestReader<'static>>
+        + Way<T, Stream>,
+{
     for shown in 0..item.len() {
         let prefix = &item[..shown];
+        ends::<T, _, _>(how, alloc, SliceReader::with_limit(prefix, limit), prefix)?;
+        ends::<T, _, _>(how, alloc, TestReader::long(prefix, limit), prefix)?;
+        ends::<T, _, _>(how, alloc, TestReader::short(prefix, limit), prefix)?;
+        ends::<T, _, _>(how, alloc, TestReader::whole(prefix, limit), prefix)?;
+        ends::<T, _, _>(how, alloc, TestReader::in_turn(prefix, limit), prefix)?;
+        ends::<T, _, _>(how, alloc, TestReader::unlimited(prefix), prefix)?;
+        // In two halves, with no byte after them.
+        let (first, second) = prefix.split_at(prefix.len() / 2);
+        let segments = vec![in alloc; first, second, b""]?.leak();
         ends::<T, _, _>(
             how,
             alloc,
-            &mut SliceReader::with_limit(prefix, limit),
+            SegmentReader::with_limit(segments, limit),
             prefix,
         )?;
-        ends::<T, _, _>(how, alloc, &mut TestReader::long(prefix, limit), prefix)?;
-        ends::<T, _, _>(how, alloc, &mut TestReader::short(prefix, limit), prefix)?;
-        ends::<T, _, _>(how, alloc, &mut TestReader::whole(prefix, limit), prefix)?;
-        ends::<T, _, _>(how, alloc, &mut TestReader::in_turn(prefix, limit), prefix)?;
-        ends::<T, _, _>(how, alloc, &mut TestReader::unlimited(prefix), prefix)?;
-        ends_in_segments::<T, _>(how, alloc, prefix, limit)?;
-        for most in [1, usize::MAX] {
-            ends::<T, _, _>(
-                how,
-                alloc,
-                &mut stream(prefix, most, usize::MAX, limit),
-                prefix,
-            )?;
-        }
+        ends::<T, _, _>(how, alloc, stream(prefix, 1, usize::MAX, limit), prefix)?;
+        ends::<T, _, _>(
+            how,
+            alloc,
+            stream(prefix, usize::MAX, usize::MAX, limit),
+            prefix,
+        )?;
     }
     Ok(())
 }
 
-// In two halves, with no byte after them.
-fn ends_in_segments<T: Debug + Drop, R: WayOverAny<T>>(
+fn ends<T: Debug + Drop, S: Source + Drop, R: Way<T, S>>(
     how: &R,
     alloc: Global,
-    prefix: &[u8],
-    limit: usize,
-) -> Result<(), Fail> {
-    let (first, second) = prefix.split_at(prefix.len() / 2);
-    let segments = [first, second, b""];
-    ends::<T, _, _>(
-        how,
-        alloc,
-        &mut SegmentReader::with_limit(&segments, limit),
-        prefix,
-    )
-}
-
-fn ends<T: Debug + Drop, S: Source, R: WayOverAny<T>>(
-    how: &R,
-    alloc: Global,
-    reader: &mut S,
+    mut reader: S,
     prefix: &[u8],
 ) -> Result<(), Fail> {
-    let budget = steps(reader);
-    let got = how.read_any(alloc, reader);
+    let budget = steps(&mut reader);
+    let (got, mut reader) = how.read(alloc, reader);
     if matches!(got, Err(DecodeError::OutOfMemory)) {
         return Err(Fail::from(DecodeError::<Never>::OutOfMemory));
     }
-    if matches!(got, Err(DecodeError::Eof { .. })) && steps(reader) == budget {
-        return leaves(reader, prefix, b"");
+    if matches!(got, Err(DecodeError::Eof { .. })) && steps(&mut reader) == budget {
+        return leaves(&mut reader, prefix, b"");
     }
     Err(Fail::new(format_args!("{got:?} of the prefix {prefix:?}")))
 }
@@ -875,201 +916,25 @@ pub fn steps<S: Source>(reader: &mut S) -> u16 {
     taken
 }
 
-// A reader that fails at the first show, at the second, and so on until none is left to fail: by
-// bytes or all at once, and it forgets what is left or does not. Where it does not fail, the answer
-// is what is wanted, if anything is.
-fn fails_at_each_show<T: PartialEq + Debug + Drop, R: Way<T, TestReader<'static>>>(
-    how: &R,
-    alloc: Global,
-    bytes: &'static [u8],
-    limit: usize,
-    is_whole: bool,
-    want: Option<&Want<T>>,
-) -> Result<(), Fail> {
-    for shows in 0..MOST_CALLS {
-        let forgetting = failing(bytes, limit, is_whole, shows).forgetting();
-        let has_forgotten = fails(how, alloc, forgetting, bytes, want)?;
-        let has_failed = fails(
-            how,
-            alloc,
-            failing(bytes, limit, is_whole, shows),
-            bytes,
-            want,
-        )?;
-        if !has_failed && !has_forgotten {
-            return Ok(());
-        }
-    }
-    Err(Fail::new(format_args!("too many shows of {bytes:?}")))
+/// How a reader that fails shows bytes.
+#[derive(Clone, Copy)]
+pub enum Shown {
+    /// One by one.
+    ByByte,
+    /// One by one, each for as long as the input lives.
+    LentByByte,
+    /// All that are left, for as long as the input lives.
+    Whole,
 }
 
 // A reader that shows bytes so many times before it fails.
-fn failing(
-    bytes: &'static [u8],
-    limit: usize,
-    is_whole: bool,
-    shows: usize,
-) -> TestReader<'static> {
-    if is_whole {
-        return TestReader::whole(bytes, limit).failing_after(shows);
-    }
-    TestReader::short(bytes, limit).failing_after(shows)
-}
-
-// Whether the reader failed. Then the answer is its error, and else what is wanted, if anything is.
-// An end of the bytes is left, and the budget is as before.
-fn fails<T: PartialEq + Debug + Drop, R: Way<T, TestReader<'static>>>(
-    how: &R,
-    alloc: Global,
-    mut reader: TestReader<'static>,
-    bytes: &[u8],
-    want: Option<&Want<T>>,
-) -> Result<bool, Fail> {
-    let limit = reader.steps();
-    let got = how.read(alloc, &mut reader);
-    let is_read = matches!(got, Err(DecodeError::Read(Failure)));
-    let is_kept = is_read == (reader.failures() == 1)
-        && reader.steps() == limit
-        && bytes.ends_with(reader.remaining());
-    if !is_kept {
-        return Err(Fail::new(format_args!("{got:?} where a show fails, of {bytes:?}")));
-    }
-    is_as_wanted(got, bytes, is_read, want)?;
-    Ok(is_read)
-}
-
-// Compares an answer with what is wanted, if anything is, where no reader failed.
-fn is_as_wanted<T: PartialEq + Debug + Drop, E: Debug + Drop>(
-    got: Result<T, DecodeError<E>>,
-    bytes: &[u8],
-    has_failed: bool,
-    want: Option<&Want<T>>,
-) -> Result<(), Fail> {
-    match want {
-        Some(want) if !has_failed => is_same(got, bytes, want),
-        _ => Ok(()),
-    }
-}
-
-// A stream that fails at the first look, at the second, and so on until none is left to fail. Then
-// the answer is what is wanted, if anything is.
-fn fails_at_each_look<T: PartialEq + Debug + Drop, R: Way<T, Stream>>(
-    how: &R,
-    alloc: Global,
-    bytes: &'static [u8],
-    limit: usize,
-    want: Option<&Want<T>>,
-) -> Result<(), Fail> {
-    for looks in 0..MOST_CALLS {
-        if !fails_at_look(how, alloc, bytes, limit, looks, want)? {
-            return Ok(());
-        }
-    }
-    Err(Fail::new(format_args!("too many looks of {bytes:?}")))
-}
-
-// Whether the stream failed. Then the answer is its error, and else what is wanted, if anything is.
-// The budget is as before, and the reader over it takes of the stream what it took, and no byte
-// more.
-fn fails_at_look<T: PartialEq + Debug + Drop, R: Way<T, Stream>>(
-    how: &R,
-    alloc: Global,
-    bytes: &'static [u8],
-    limit: usize,
-    looks: usize,
-    want: Option<&Want<T>>,
-) -> Result<bool, Fail> {
-    let mut reader = stream(bytes, 2, looks, limit);
-    let budget = steps(&mut reader);
-    let got = how.read(alloc, &mut reader);
-    let is_read = matches!(
-        &got,
-        Err(DecodeError::Read(error)) if error.kind() == ErrorKind::Other
-    );
-    let is_kept = steps(&mut reader) == budget;
-    let taken = reader.taken() as usize;
-    let stream = reader.into_inner();
-    let is_left = bytes.get(taken..) == Some(stream.remaining());
-    if !is_kept || !is_left || is_read != stream.has_failed() {
-        return Err(Fail::new(format_args!("{got:?} where look {looks} fails, of {bytes:?}")));
-    }
-    is_as_wanted(got, bytes, is_read, want)?;
-    Ok(is_read)
-}
-
-// The item of a row that is read, alone, over readers that fail in the place of showing that
-// nothing is left: the answer is the same, since an item says itself where it ends. A row that
-// takes no byte is no such row, since what follows may say what it is.
-fn asks_nothing_after<T, R>(
-    how: &R,
-    alloc: Global,
-    item: &'static [u8],
-    limit: usize,
-    want: &Want<T>,
-) -> Result<(), Fail>
-where
-    T: PartialEq + Debug + Drop,
-    R: Way<T, TestReader<'static>> + Way<T, Stream>,
-{
-    if want.is_err() || item.is_empty() {
-        return Ok(());
-    }
-    asks_whole_nothing_after(how, alloc, item, limit, want)?;
-    let mut short = TestReader::short(item, limit).failing_at_end();
-    is_same(how.read(alloc, &mut short), item, want)?;
-    let mut short = TestReader::short(item, limit).waiting();
-    is_same(how.read(alloc, &mut short), item, want)?;
-    for most in [1, usize::MAX] {
-        let stream = FailingStream::new(item, most, usize::MAX).failing_at_end();
-        let mut reader = IoReader::with_limit(stream, limit);
-        is_same(how.read(alloc, &mut reader), item, want)?;
-    }
-    Ok(())
-}
-
-// The item of a row that is read, alone, over readers that show all that is left, or what is
-// wanted. They fail where it is not enough, and the answer is the same.
-fn asks_whole_nothing_after<T, R>(
-    how: &R,
-    alloc: Global,
-    item: &'static [u8],
-    limit: usize,
-    want: &Want<T>,
-) -> Result<(), Fail>
-where
-    T: PartialEq + Debug + Drop,
-    R: Way<T, TestReader<'static>>,
-{
-    if want.is_err() {
-        return Ok(());
-    }
-    let mut whole = TestReader::whole(item, limit).failing_at_end();
-    is_same(how.read(alloc, &mut whole), item, want)?;
-    waits_for_nothing_after(how, alloc, item, limit, want)
-}
-
-// The item of a row, alone, over readers that wait for all that is wanted. No look asks for a byte
-// that the item does not need, and each complete item is read.
-fn waits_for_nothing_after<T, R>(
-    how: &R,
-    alloc: Global,
-    item: &'static [u8],
-    limit: usize,
-    want: &Want<T>,
-) -> Result<(), Fail>
-where
-    T: PartialEq + Debug + Drop,
-    R: Way<T, TestReader<'static>>,
-{
-    let mut whole = TestReader::whole(item, limit).waiting();
-    is_same(how.read(alloc, &mut whole), item, want)?;
-    let mut wanted = TestReader::wanted(item, limit).waiting();
-    is_same(how.read(alloc, &mut wanted), item, want)
-}
-
-// What a row takes of its bytes, of which `rest` is left.
-fn item_of(bytes: &'static [u8], rest: &[u8]) -> &'static [u8] {
-    &bytes[..bytes.len().saturating_sub(rest.len())]
+fn failing(bytes: &'static [u8], limit: usize, shown: Shown, shows: usize) -> TestReader<'static> {
+    let reader = match shown {
+        Shown::ByByte => TestReader::short(bytes, limit),
+        Shown::LentByByte => TestReader::long(bytes, limit),
+        Shown::Whole => TestReader::whole(bytes, limit),
+    };
+    reader.failing_after(shows)
 }
 
 /// What a row writes: a value, or an item in parts.
@@ -1205,7 +1070,7 @@ pub fn goes_both_ways<T>(
     pushes: usize,
 ) -> Result<(), Fail>
 where
-    T: WriteTo + ReadFrom + PartialEq + Debug + Drop,
+    T: WriteTo + ReadFrom + PartialEq,
 {
     writes_in(alloc, &value, bytes, pushes)?;
     reads(alloc, bytes, Ok(value), b"")
@@ -1226,23 +1091,12 @@ pub fn texts_go_both_ways<T>(
     rows: &[(&'static [u8], &'static str, usize)],
 ) -> Result<(), Fail>
 where
-    T: WriteTo + ReadFrom + Debug + Drop,
+    T: WriteTo + ReadFrom,
 {
     for (bytes, text, pushes) in rows {
-        reads_alike(alloc, bytes, &by_text::<T>(alloc, &Ok(*text))?, b"")?;
+        reads_texts::<T>(alloc, &[(bytes, Ok(text), b"")])?;
         let value = T::read_from(alloc, &mut SliceReader::new(bytes))?;
         writes_in(alloc, &value, bytes, *pushes)?;
-    }
-    Ok(())
-}
-
-/// Writes the value of each row and reads it back: the bytes, the value and its pushes.
-pub fn rows_go_both_ways<T>(alloc: Global, rows: &[(&'static [u8], T, usize)]) -> Result<(), Fail>
-where
-    T: WriteTo + ReadFrom + PartialEq + Debug + Copy + Drop,
-{
-    for (bytes, value, pushes) in rows {
-        goes_both_ways(alloc, *value, bytes, *pushes)?;
     }
     Ok(())
 }

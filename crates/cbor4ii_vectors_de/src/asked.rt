@@ -57,7 +57,7 @@ pub fn asks_rows<C: Calls>(alloc: Global, name: &str, rows: &[Row]) -> Result<()
 fn asks_wide<C: Calls>(
     how: &ByName<C>,
     alloc: Global,
-    bytes: &[u8],
+    bytes: &'static [u8],
     (looks, by_byte): (usize, usize),
 ) -> Result<(), Fail> {
     let reader = Asked::new(bytes).wide().refusing_above(4_096);

@@ -8,13 +8,12 @@ use cbor4ii_rw::io_reader::IoReader;
 use cbor4ii_rw::read::Source;
 use cbor4ii_rw::segment_reader::SegmentReader;
 use cbor4ii_rw::slice_reader::SliceReader;
-use cbor4ii_vectors::rows::{leaves, steps};
+use cbor4ii_vectors::rows::{Answered, Content, Trial, Way};
 use cbor4ii_vectors::streams::FailingStream;
-use cbor4ii_vectors::{mismatch, no_step, require_borrowed, require_utf8, table};
-use std::alloc::Global;
+use cbor4ii_vectors::{mismatch, no_step, require_borrowed, require_utf8, rows, table};
+use std::alloc::{AllocError, Global};
 use std::borrow::{CowSlice, CowStr};
-use std::fmt::{Debug, InlineText};
-use std::io::{self, ErrorKind};
+use std::io;
 use std::test::Fail;
 
 /// How a string is read.
@@ -102,209 +101,122 @@ impl Strings for IoReader<FailingStream<'static>> {
 /// error.
 type Want = Result<(&'static [u8], bool), &'static str>;
 
-/// What a type that is always borrowed is read as.
-fn borrowed_alone(kind: Kind, want: Want) -> Want {
+impl<S: Strings> Way<Content, S> for Kind {
+    fn read(&self, alloc: Global, reader: S) -> Answered<Content, S> {
+        let mut de = Deserializer::new(reader);
+        let got = match S::string(*self, alloc, &mut de) {
+            Ok(content) => Content::of(alloc, content),
+            Err(DecodeError::Core(error)) => Err(error),
+            Err(DecodeError::Custom(name)) => Err(core_error::DecodeError::Custom { name, num: 0 }),
+        };
+        (got, de.into_inner())
+    }
+}
+
+/// What is read of this way: a type that is always borrowed rejects what is not lent.
+fn wanted(kind: Kind, alloc: Global, want: Want) -> Result<rows::Want<Content>, AllocError> {
     match (kind, want) {
-        (Kind::BorrowedText, Ok((_, false))) => Err(require_borrowed!("str")),
-        (Kind::BorrowedBytes, Ok((_, false))) => Err(require_borrowed!("bytes")),
-        _ => want,
+        (Kind::BorrowedText, Ok((_, false))) => Ok(Err(require_borrowed!("str"))),
+        (Kind::BorrowedBytes, Ok((_, false))) => Ok(Err(require_borrowed!("bytes"))),
+        (_, Ok((content, is_borrowed))) => Ok(Ok(Content::new(alloc, content, is_borrowed)?)),
+        (_, Err(rejection)) => Ok(Err(rejection)),
     }
 }
 
-/// Whether this was to be read.
-fn is_wanted<E: Debug + Drop>(
-    got: &Result<CowSlice<'static, u8, Global>, DecodeError<E>>,
-    want: Want,
-) -> bool {
-    match got {
-        Ok(CowSlice::Borrowed(found)) => want == Ok((*found, true)),
-        Ok(CowSlice::Owned(found)) => want == Ok((found.as_slice(), false)),
-        Err(DecodeError::Core(error)) => want == Err(InlineText::<128>::of(error).as_str()),
-        Err(DecodeError::Custom(_)) => false,
-    }
-}
-
-/// The answer over this reader, the bytes that are left, and the steps as before.
-fn reads<S: Strings + Drop>(
-    kind: Kind,
-    alloc: Global,
-    mut reader: S,
-    bytes: &[u8],
-    want: Want,
-    rest: &[u8],
-) -> Result<(), Fail> {
-    let budget = steps(&mut reader);
-    let mut de = Deserializer::new(reader);
-    let got = S::string(kind, alloc, &mut de);
-    let mut reader = de.into_inner();
-    let want = borrowed_alone(kind, want);
-    if is_wanted(&got, want) && steps(&mut reader) == budget {
-        return leaves(&mut reader, bytes, rest);
-    }
-    if let Err(DecodeError::Core(core_error::DecodeError::OutOfMemory)) = &got {
-        return Err(Fail::from(core_error::DecodeError::<Never>::OutOfMemory));
-    }
-    Err(Fail::new(format_args!("not {want:?} of {bytes:?}")))
-}
-
-/// A string whose content is all between its head and the rest: over a slice, over segments that
-/// cut it at each place, and out of streams.
-fn reads_definite(
+/// A string that is read in this way: its bytes, and what is left of them.
+#[derive(Drop)]
+struct Lent {
     kind: Kind,
     alloc: Global,
     bytes: &'static [u8],
-    content: &'static [u8],
     rest: &'static [u8],
-) -> Result<(), Fail> {
-    reads(
+}
+
+impl Lent {
+    /// The answer over this reader, the bytes that are left, and the steps as before.
+    fn over<S: Strings + Drop>(&self, reader: S, want: Want) -> Result<(), Fail> {
+        let want = wanted(self.kind, self.alloc, want)?;
+        Trial::new(&self.kind, self.alloc, self.bytes, &want, self.rest).over(reader)
+    }
+
+    /// Over two segments that are cut here.
+    fn cut(&self, place: usize, want: Want) -> Result<(), Fail> {
+        let want = wanted(self.kind, self.alloc, want)?;
+        Trial::new(&self.kind, self.alloc, self.bytes, &want, self.rest).in_two_segments(place)
+    }
+
+    /// Over segments of one byte each, so that each byte is shown alone, and lent.
+    fn by_byte(&self, want: Want) -> Result<(), Fail> {
+        let mut parts: Vec<&'static [u8]> = Vec::with_capacity(self.alloc, self.bytes.len())?;
+        for byte in self.bytes.chunks(1) {
+            parts.push(byte)?;
+        }
+        self.over(SegmentReader::new(parts.leak()), want)
+    }
+
+    /// Out of streams that show a byte at a time, as many as a buffer holds, and all that is left.
+    fn streamed(&self, want: Want) -> Result<(), Fail> {
+        for most in [1, BUFFER, usize::MAX] {
+            let stream = FailingStream::new(self.bytes, most, usize::MAX);
+            self.over(IoReader::new(stream), want)?;
+        }
+        Ok(())
+    }
+
+    /// The same, also of one that fails at one look or another, which is the answer then.
+    fn failing(&self, want: Want) -> Result<(), Fail> {
+        self.streamed(want)?;
+        let want = wanted(self.kind, self.alloc, want)?;
+        let trial = Trial::new(&self.kind, self.alloc, self.bytes, &want, self.rest);
+        trial.failing_at_each_look(1, true)
+    }
+
+    /// A string whose content is all between its head and the rest: over a slice, over segments that
+    /// cut it at each place, and out of streams.
+    fn definite(&self, content: &'static [u8]) -> Result<(), Fail> {
+        self.over(SliceReader::new(self.bytes), Ok((content, true)))?;
+        let end = self.bytes.len().saturating_sub(self.rest.len());
+        let head = end.saturating_sub(content.len());
+        for place in 1..self.bytes.len() {
+            self.cut(place, Ok((content, place <= head || end <= place)))?;
+        }
+        self.by_byte(Ok((content, content.len() <= 1)))?;
+        self.failing(Ok((content, false)))
+    }
+
+    /// A string that no reader lends, or that is rejected: over the same readers, one answer.
+    fn alike(&self, want: Want) -> Result<(), Fail> {
+        self.over(SliceReader::new(self.bytes), want)?;
+        for place in 1..self.bytes.len() {
+            self.cut(place, want)?;
+        }
+        self.by_byte(want)?;
+        self.failing(want)
+    }
+
+    /// A string of too many bytes to try each cut and each fault: over a slice, over segments of
+    /// which one holds it all, over two that each hold a half of it, and out of streams. `lent` is
+    /// what it is read as where all of it is lent.
+    fn many(&self, lent: Want, copied: Want) -> Result<(), Fail> {
+        let end = self.bytes.len().saturating_sub(self.rest.len());
+        self.over(SliceReader::new(self.bytes), lent)?;
+        self.cut(end, lent)?;
+        self.cut(end / 2, copied)?;
+        self.streamed(copied)
+    }
+}
+
+fn read_by(kind: Kind, alloc: Global, bytes: &'static [u8], rest: &'static [u8]) -> Lent {
+    Lent {
         kind,
         alloc,
-        SliceReader::new(bytes),
         bytes,
-        Ok((content, true)),
         rest,
-    )?;
-    let end = bytes.len().saturating_sub(rest.len());
-    let head = end.saturating_sub(content.len());
-    for cut in 1..bytes.len() {
-        let is_borrowed = cut <= head || end <= cut;
-        reads_cut(kind, alloc, bytes, cut, Ok((content, is_borrowed)), rest)?;
     }
-    reads_by_byte(kind, alloc, bytes, Ok((content, content.len() <= 1)), rest)?;
-    reads_of_streams(kind, alloc, bytes, Ok((content, false)), rest)
-}
-
-/// A string that no reader lends, or that is rejected: over the same readers, one answer.
-fn reads_alike(
-    kind: Kind,
-    alloc: Global,
-    bytes: &'static [u8],
-    want: Want,
-    rest: &'static [u8],
-) -> Result<(), Fail> {
-    reads(kind, alloc, SliceReader::new(bytes), bytes, want, rest)?;
-    for cut in 1..bytes.len() {
-        reads_cut(kind, alloc, bytes, cut, want, rest)?;
-    }
-    reads_by_byte(kind, alloc, bytes, want, rest)?;
-    reads_of_streams(kind, alloc, bytes, want, rest)
-}
-
-/// A string of too many bytes to try each cut and each fault: over a slice, over segments of which
-/// one holds it all, over two that each hold a half of it, and out of streams. `lent` is what it is
-/// read as where all of it is lent.
-fn reads_many(
-    kind: Kind,
-    alloc: Global,
-    bytes: &'static [u8],
-    lent: Want,
-    copied: Want,
-    rest: &'static [u8],
-) -> Result<(), Fail> {
-    let end = bytes.len().saturating_sub(rest.len());
-    reads(kind, alloc, SliceReader::new(bytes), bytes, lent, rest)?;
-    reads_cut(kind, alloc, bytes, end, lent, rest)?;
-    reads_cut(kind, alloc, bytes, end / 2, copied, rest)?;
-    reads_streamed(kind, alloc, bytes, copied, rest)
-}
-
-/// Over two segments that are cut here.
-fn reads_cut(
-    kind: Kind,
-    alloc: Global,
-    bytes: &'static [u8],
-    cut: usize,
-    want: Want,
-    rest: &'static [u8],
-) -> Result<(), Fail> {
-    let (first, second) = bytes.split_at(cut.min(bytes.len()));
-    let parts = vec![in alloc; first, second]?.leak();
-    reads(kind, alloc, SegmentReader::new(parts), bytes, want, rest)
-}
-
-/// Over segments of one byte each, so that each byte is shown alone, and lent.
-fn reads_by_byte(
-    kind: Kind,
-    alloc: Global,
-    bytes: &'static [u8],
-    want: Want,
-    rest: &'static [u8],
-) -> Result<(), Fail> {
-    let mut parts: Vec<&'static [u8]> = Vec::with_capacity(alloc, bytes.len())?;
-    for byte in bytes.chunks(1) {
-        parts.push(byte)?;
-    }
-    reads(
-        kind,
-        alloc,
-        SegmentReader::new(parts.leak()),
-        bytes,
-        want,
-        rest,
-    )
 }
 
 /// How many bytes a stream with a buffer shows at once.
 const BUFFER: usize = 4_096;
-
-/// Out of streams that show a byte at a time, as many as a buffer holds, and all that is left.
-fn reads_streamed(
-    kind: Kind,
-    alloc: Global,
-    bytes: &'static [u8],
-    want: Want,
-    rest: &'static [u8],
-) -> Result<(), Fail> {
-    for most in [1, BUFFER, usize::MAX] {
-        let stream = FailingStream::new(bytes, most, usize::MAX);
-        reads(kind, alloc, IoReader::new(stream), bytes, want, rest)?;
-    }
-    Ok(())
-}
-
-/// Out of streams, also of one that fails at one look or another, which is the answer then.
-fn reads_of_streams(
-    kind: Kind,
-    alloc: Global,
-    bytes: &'static [u8],
-    want: Want,
-    rest: &'static [u8],
-) -> Result<(), Fail> {
-    reads_streamed(kind, alloc, bytes, want, rest)?;
-    for looks in 0..bytes.len().saturating_mul(4).max(64) {
-        if !fails_at_look(kind, alloc, bytes, looks)? {
-            return Ok(());
-        }
-    }
-    Err(Fail::new(format_args!("too many looks of {bytes:?}")))
-}
-
-/// Whether a stream that fails at this look does, which is the answer then. The steps are as
-/// before, and the reader over it takes of the stream what it took, and no byte more.
-fn fails_at_look(
-    kind: Kind,
-    alloc: Global,
-    bytes: &'static [u8],
-    looks: usize,
-) -> Result<bool, Fail> {
-    let stream = FailingStream::new(bytes, 1, looks);
-    let mut de = Deserializer::new(IoReader::new(stream));
-    let is_fault = match <IoReader<FailingStream<'static>>>::string(kind, alloc, &mut de) {
-        Err(DecodeError::Core(core_error::DecodeError::Read(error))) => {
-            error.kind() == ErrorKind::Other
-        }
-        _ => false,
-    };
-    let mut reader = de.into_inner();
-    let is_kept = steps(&mut reader) == 256;
-    let taken = reader.taken() as usize;
-    let stream = reader.into_inner();
-    let is_left = bytes.get(taken..) == Some(stream.remaining());
-    if is_kept && is_left && is_fault == stream.has_failed() {
-        return Ok(is_fault);
-    }
-    Err(Fail::new(format_args!("not a fault at look {looks} of {bytes:?}")))
-}
 
 /// Bytes of a string that is borrowed where its content is lent whole, its content, and what is
 /// left of them.
@@ -322,10 +234,10 @@ fn reads_rows(
 ) -> Result<(), Fail> {
     for kind in kinds {
         for (bytes, content, rest) in counted {
-            reads_definite(*kind, alloc, bytes, content, rest)?;
+            read_by(*kind, alloc, bytes, rest).definite(content)?;
         }
         for (bytes, want, rest) in alike {
-            reads_alike(*kind, alloc, bytes, *want, rest)?;
+            read_by(*kind, alloc, bytes, rest).alike(*want)?;
         }
     }
     Ok(())
@@ -336,7 +248,7 @@ fn reads_with_no_step(kinds: &[Kind], alloc: Global, row: Alike) -> Result<(), F
     let (bytes, want, rest) = row;
     for kind in kinds {
         let reader = SliceReader::with_limit(bytes, 0);
-        reads(*kind, alloc, reader, bytes, want, rest)?;
+        read_by(*kind, alloc, bytes, rest).over(reader, want)?;
     }
     Ok(())
 }
@@ -357,12 +269,12 @@ fn reads_long(
     let content = lettered(alloc, &(b"", b"", b""), FEW)?;
     let bytes = lettered(alloc, counted, FEW)?;
     for kind in kinds {
-        reads_definite(*kind, alloc, bytes, content, AFTER)?;
+        read_by(*kind, alloc, bytes, AFTER).definite(content)?;
     }
     for shape in in_chunks {
         let bytes = lettered(alloc, shape, FEW)?;
         for kind in kinds {
-            reads_alike(*kind, alloc, bytes, Ok((content, false)), AFTER)?;
+            read_by(*kind, alloc, bytes, AFTER).alike(Ok((content, false)))?;
         }
     }
     Ok(())
@@ -380,12 +292,12 @@ fn reads_longer(
     let bytes = lettered(alloc, counted, LETTERS)?;
     let copied = Ok((content, false));
     for kind in kinds {
-        reads_many(*kind, alloc, bytes, Ok((content, true)), copied, AFTER)?;
+        read_by(*kind, alloc, bytes, AFTER).many(Ok((content, true)), copied)?;
     }
     for shape in in_chunks {
         let bytes = lettered(alloc, shape, LETTERS)?;
         for kind in kinds {
-            reads_many(*kind, alloc, bytes, copied, copied, AFTER)?;
+            read_by(*kind, alloc, bytes, AFTER).many(copied, copied)?;
         }
     }
     Ok(())

@@ -13,8 +13,9 @@ ghost use Rattle.cbor4ii.specs.Codec.{codec_of};
 ghost use Rattle.cbor4ii.specs.CodecAgrees.{as_described, its_codec};
 ghost use Rattle.cbor4ii.specs.CodecItems.{tagged_codec, item_codec};
 
-use crate::takes;
-use crate::typed::{Answer, BothShown, RowShown, RowShownWithin, comes_back, tries_shown};
+use crate::typed::{
+    Answer, BothShown, Got, RowShown, RowShownWithin, Take, comes_back, tries_shown,
+};
 use cbor4ii::dec::{Decodable, Decode};
 use cbor4ii::enc::{Encode, Write};
 use cbor4ii::serde::{
@@ -69,7 +70,11 @@ impl<T: AsDescribed> AsDescribed for Under<T> {
     ghost agrees = { as_described (T.agrees, tt) T.agrees.is };
 }
 
-takes!(Under<u8>);
+impl Take for Under<u8> {
+    fn take<S: Source>(alloc: Global, de: &mut Deserializer<S>) -> Got<Self, S> {
+        Self::deserialize(alloc, de)
+    }
+}
 
 const NUMBERS: &[BothShown] = table! {
     (b"\xd8\x18\x05", "Is(Under(5))"),
@@ -102,7 +107,11 @@ fn tagged_numbers(rt: HostRuntime) -> Result<(), Fail> {
     tries_shown::<Answer<Under<u8>>>(rt.alloc(), NUMBERS, NUMBERS_READ, NUMBERS_WITHIN)
 }
 
-takes!(Under<Under<bool>>);
+impl Take for Under<Under<bool>> {
+    fn take<S: Source>(alloc: Global, de: &mut Deserializer<S>) -> Got<Self, S> {
+        Self::deserialize(alloc, de)
+    }
+}
 
 const TWICE: &[BothShown] = table! {
     (b"\xd8\x18\xd8\x18\xf5", "Is(Under(Under(true)))"),

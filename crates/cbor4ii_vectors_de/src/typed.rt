@@ -9,10 +9,11 @@ use cbor4ii_rw::read::Source;
 use cbor4ii_rw::slice_reader::SliceReader;
 use cbor4ii_rw::write::Write;
 use cbor4ii_vectors::rows::{
-    Called, CalledWithin, Calls, ReadFrom, Row, RowWithin, WriteTo, calls_rows, calls_rows_within,
-    ends_at_each_prefix, reads_texts, reads_texts_within, says, writes,
+    Called, CalledWithin, Calls, ReadFrom, Row, RowWithin, WriteTo, call_ends_at_each_prefix,
+    calls_rows, calls_rows_within, ends_at_each_prefix, reads_texts, reads_texts_within, says,
+    writes,
 };
-use cbor4ii_vectors_ser::typed::write_typed;
+use cbor4ii_vectors_ser::typed::{spoil, write_typed};
 use std::alloc::Global;
 use std::fmt::{Debug, InlineText};
 use std::marker::PhantomData;
@@ -41,26 +42,76 @@ pub trait Take: Sized {
     fn take<S: Source>(alloc: Global, de: &mut Deserializer<S>) -> Got<Self, S>;
 }
 
-/// What is taken of these types is what their own `deserialize` reads.
-#[macro_export]
-macro_rules! takes {
-    ($($type:ty),*) => {
-        $(impl $crate::typed::Take for $type {
-            fn take<S: cbor4ii::dec::Source>(
-                alloc: std::alloc::Global,
-                de: &mut cbor4ii::serde::Deserializer<S>,
-            ) -> $crate::typed::Got<Self, S> {
-                cbor4ii::serde::Deserialize::deserialize(alloc, de)
-            }
-        })*
-    };
-}
-
 /// Calls of a deserializer that differ by their names.
 pub trait TypedCalls {
     /// The `Debug` text of what the call of this name reads from the beginning of what `de` has
     /// left. Of a name that is none of a call nothing is read, and `no_call` is the answer.
     fn make<S: Source>(name: &str, alloc: Global, de: &mut Deserializer<S>) -> Got<String, S>;
+}
+
+/// Types that differ by their names, each by its own `deserialize` and `serialize`.
+pub trait TypedNames: TypedCalls {
+    /// Writes what is read from the bytes as the type of this name, by `written`. Of a name that is
+    /// none of a type the row is spoilt.
+    fn again<W: Write>(
+        name: &str,
+        alloc: Global,
+        bytes: &'static [u8],
+        writer: &mut W,
+    ) -> Result<(), core_error::EncodeError<W::Error>>;
+}
+
+/// Writes what is read of the bytes. Where they are rejected, the row is spoilt.
+pub fn written<T, W>(
+    alloc: Global,
+    bytes: &'static [u8],
+    writer: &mut W,
+) -> Result<(), core_error::EncodeError<W::Error>>
+where
+    T: Deserialize<SliceReader<'static>> + Serialize + Drop,
+    W: Write,
+{
+    match from_slice::<&'static [u8], T>(alloc, bytes) {
+        Ok(value) => write_typed(&value, writer),
+        Err(_) => spoil(writer),
+    }
+}
+
+/// What is read from bytes as the type of this name, to be written again.
+#[derive(Drop)]
+struct Again<C> {
+    name: &'static str,
+    alloc: Global,
+    bytes: &'static [u8],
+    of: PhantomData<C>,
+}
+
+impl<C: TypedNames> WriteTo for Again<C> {
+    fn write_to<W: Write>(&self, writer: &mut W) -> Result<(), core_error::EncodeError<W::Error>> {
+        C::again(self.name, self.alloc, self.bytes, writer)
+    }
+}
+
+/// What is read from the bytes as the type of this name has the text, and is written as them. Each
+/// proper prefix of them is the end of the input.
+pub fn goes_both_ways<C: TypedNames>(
+    alloc: Global,
+    name: &'static str,
+    (bytes, text): BothShown,
+) -> Result<(), Fail> {
+    let of = PhantomData;
+    writes(
+        alloc,
+        &Again::<C> {
+            name,
+            alloc,
+            bytes,
+            of,
+        },
+        bytes,
+    )?;
+    calls_rows::<By<C>>(alloc, &[(name, bytes, Ok(text), b"")])?;
+    call_ends_at_each_prefix::<By<C>>(alloc, name, bytes)
 }
 
 /// The calls, of which one that is rejected in words of its own has the text of that error.
@@ -118,7 +169,7 @@ impl<T> Answer<T> {
     }
 }
 
-impl<T: Take> ReadFrom for Answer<T> {
+impl<T: Take + Debug + Drop> ReadFrom for Answer<T> {
     fn read_from<S: Source>(
         alloc: Global,
         reader: &mut S,

@@ -1,19 +1,17 @@
 //! The types that rows read and write, by their names, each by its own `deserialize` and
 //! `serialize`.
-use crate::takes;
-use crate::typed::{By, Got, TypedCalls, calls, no_call, shows};
+use crate::typed::{
+    Got, Take, TypedCalls, TypedNames, calls, goes_both_ways, no_call, shows, written,
+};
 use cbor4ii::Value;
 use cbor4ii::dec::IgnoredAny;
-use cbor4ii::serde::{DecodeError, Deserialize, Deserializer, Serialize, from_slice};
+use cbor4ii::serde::{DecodeError, Deserialize, Deserializer};
 use cbor4ii::types::{Bytes, F16, F32, F64};
 use cbor4ii_rw::error::EncodeError;
 use cbor4ii_rw::read::Source;
-use cbor4ii_rw::slice_reader::SliceReader;
 use cbor4ii_rw::write::Write;
-use cbor4ii_vectors::rows::{
-    Called, CalledWithin, WriteTo, call_ends_at_each_prefix, calls_rows, writes,
-};
-use cbor4ii_vectors_ser::typed::{spoil, write_typed};
+use cbor4ii_vectors::rows::{Called, CalledWithin};
+use cbor4ii_vectors_ser::typed::spoil;
 use std::alloc::Global;
 use std::collections::BTreeMap;
 use std::fmt::Debug;
@@ -86,29 +84,14 @@ fn deserialized<T: Deserialize<S> + Debug + Drop, S: Source>(
     shows(alloc, T::deserialize(alloc, de)?)
 }
 
-/// What is read from bytes as the type of this name, to be written again.
-#[derive(Drop)]
-struct Again {
-    name: &'static str,
-    alloc: Global,
-    bytes: &'static [u8],
-}
-
-impl WriteTo for Again {
-    fn write_to<W: Write>(&self, writer: &mut W) -> Result<(), EncodeError<W::Error>> {
-        of_type!(self.name, written(self, writer), spoil(writer))
-    }
-}
-
-/// Writes what is read of the bytes. Where they are rejected, the row is spoilt.
-fn written<T, W>(again: &Again, writer: &mut W) -> Result<(), EncodeError<W::Error>>
-where
-    T: Deserialize<SliceReader<'static>> + Serialize + Drop,
-    W: Write,
-{
-    match from_slice::<&'static [u8], T>(again.alloc, again.bytes) {
-        Ok(value) => write_typed(&value, writer),
-        Err(_) => spoil(writer),
+impl TypedNames for Types {
+    fn again<W: Write>(
+        name: &str,
+        alloc: Global,
+        bytes: &'static [u8],
+        writer: &mut W,
+    ) -> Result<(), EncodeError<W::Error>> {
+        of_type!(name, written(alloc, bytes, writer), spoil(writer))
     }
 }
 
@@ -124,11 +107,31 @@ pub fn tries_types(
     within: &[CalledWithin],
 ) -> Result<(), Fail> {
     for &(name, bytes, text) in both {
-        writes(alloc, &Again { name, alloc, bytes }, bytes)?;
-        calls_rows::<By<Types>>(alloc, &[(name, bytes, Ok(text), b"")])?;
-        call_ends_at_each_prefix::<By<Types>>(alloc, name, bytes)?;
+        goes_both_ways::<Types>(alloc, name, (bytes, text))?;
     }
     calls::<Types>(alloc, rows, within)
 }
 
-takes!(Value, String, Vec<u16>, BTreeMap<u16, u8>);
+impl Take for Value {
+    fn take<S: Source>(alloc: Global, de: &mut Deserializer<S>) -> Got<Self, S> {
+        Self::deserialize(alloc, de)
+    }
+}
+
+impl Take for String {
+    fn take<S: Source>(alloc: Global, de: &mut Deserializer<S>) -> Got<Self, S> {
+        Self::deserialize(alloc, de)
+    }
+}
+
+impl Take for Vec<u16> {
+    fn take<S: Source>(alloc: Global, de: &mut Deserializer<S>) -> Got<Self, S> {
+        Self::deserialize(alloc, de)
+    }
+}
+
+impl Take for BTreeMap<u16, u8> {
+    fn take<S: Source>(alloc: Global, de: &mut Deserializer<S>) -> Got<Self, S> {
+        Self::deserialize(alloc, de)
+    }
+}

@@ -1,14 +1,14 @@
 //! Rows of initial bytes and heads, and what heads ask of a reader.
 use cbor4ii_items::initial::{argument, high, if_major, low, peek};
 use cbor4ii_items::integer_head::integer_head;
-use cbor4ii_items::types::F64;
 use cbor4ii_rw::io_reader::IoReader;
 use cbor4ii_rw::read::Source;
 use cbor4ii_rw::slice_reader::SliceReader;
-use cbor4ii_vectors::asked::{looks_at_most, looks_within_windows};
+use cbor4ii_vectors::asked::{looks_at_most_by, looks_within_windows_by};
 use cbor4ii_vectors::compared::same;
+use cbor4ii_vectors::items::Items;
 use cbor4ii_vectors::readers::Asked;
-use cbor4ii_vectors::rows::ReadFrom;
+use cbor4ii_vectors::rows::ByName;
 use cbor4ii_vectors::table;
 use std::alloc::Global;
 use std::fmt::InlineText;
@@ -125,10 +125,20 @@ fn integers_of_64_bits_have_heads() -> Result<(), Fail> {
 // Where a look may ask for fewer than 4,096, there are no more than over these.
 type Looks = (usize, usize, usize);
 
-fn asks<T: ReadFrom + Drop>(alloc: Global, bytes: &[u8], looks: Looks) -> Result<(), Fail> {
+fn asks(alloc: Global, name: &str, bytes: &'static [u8], looks: Looks) -> Result<(), Fail> {
     let (shown, by_byte, wide) = looks;
-    looks_at_most::<T>(alloc, Asked::new(bytes), bytes, true, shown, bytes.len())?;
-    looks_at_most::<T>(
+    let how = ByName::<Items>::new(alloc, name)?;
+    looks_at_most_by::<String, _>(
+        &how,
+        alloc,
+        Asked::new(bytes),
+        bytes,
+        true,
+        shown,
+        bytes.len(),
+    )?;
+    looks_at_most_by::<String, _>(
+        &how,
         alloc,
         Asked::new(bytes).showing(1),
         bytes,
@@ -136,18 +146,18 @@ fn asks<T: ReadFrom + Drop>(alloc: Global, bytes: &[u8], looks: Looks) -> Result
         by_byte,
         bytes.len(),
     )?;
-    looks_within_windows::<T>(alloc, bytes, true, bytes.len(), (shown, by_byte))?;
-    looks_at_most::<T>(alloc, Asked::new(bytes).wide(), bytes, true, wide, 9)
+    looks_within_windows_by::<String, _>(&how, alloc, bytes, true, bytes.len(), (shown, by_byte))?;
+    looks_at_most_by::<String, _>(&how, alloc, Asked::new(bytes).wide(), bytes, true, wide, 9)
 }
 
-fn asks_each<T: ReadFrom + Drop>(alloc: Global, rows: &[(&[u8], Looks)]) -> Result<(), Fail> {
+fn asks_each(alloc: Global, name: &str, rows: &[(&'static [u8], Looks)]) -> Result<(), Fail> {
     for (bytes, looks) in rows {
-        asks::<T>(alloc, bytes, *looks)?;
+        asks(alloc, name, bytes, *looks)?;
     }
     Ok(())
 }
 
-const NUMBERS: &[(&[u8], Looks)] = table! {
+const NUMBERS: &[(&'static [u8], Looks)] = table! {
     (b"\x17", (1, 1, 1)),
     (b"\x18\x18", (2, 4, 1)),
     (b"\x19\x01\x02", (2, 5, 1)),
@@ -157,7 +167,7 @@ const NUMBERS: &[(&[u8], Looks)] = table! {
 
 #[test]
 fn looks_of_a_number(rt: HostRuntime) -> Result<(), Fail> {
-    asks_each::<u64>(rt.alloc(), NUMBERS)
+    asks_each(rt.alloc(), "u64", NUMBERS)
 }
 
 // One from 0 on is looked for first, then one below. By bytes the first stays for one look more.
@@ -176,15 +186,16 @@ const LARGE_NUMBERS: &[(&[u8], Looks)] = table! {
 #[test]
 fn looks_of_a_signed_number(rt: HostRuntime) -> Result<(), Fail> {
     let alloc = rt.alloc();
-    asks_each::<i64>(alloc, SIGNED_NUMBERS)?;
-    asks_each::<i128>(alloc, LARGE_NUMBERS)?;
-    asks::<u128>(alloc, b"\x19\x01\x02", (2, 6, 1))
+    asks_each(alloc, "i64", SIGNED_NUMBERS)?;
+    asks_each(alloc, "i128", LARGE_NUMBERS)?;
+    asks(alloc, "u128", b"\x19\x01\x02", (2, 6, 1))
 }
 
 #[test]
 fn looks_of_a_float(rt: HostRuntime) -> Result<(), Fail> {
-    asks::<F64>(
+    asks(
         rt.alloc(),
+        "F64",
         b"\xfb\x3f\xf1\x99\x99\x99\x99\x99\x9a",
         (2, 11, 1),
     )

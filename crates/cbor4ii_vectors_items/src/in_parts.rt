@@ -3,6 +3,7 @@ use cbor4ii_items::encode::Encode;
 use cbor4ii_items::types::{Array, Bytes, Map, UncheckedStr};
 use cbor4ii_rw::error::EncodeError;
 use cbor4ii_rw::write::Write;
+use cbor4ii_vectors::items::Items;
 use cbor4ii_vectors::rows::{WriteTo, writes_pushes};
 use std::alloc::Global;
 use std::test::Fail;

@@ -2,21 +2,22 @@
 use cbor4ii_items::decode::Decode;
 use cbor4ii_items::types::Nothing;
 use cbor4ii_vectors::compared::same;
+use cbor4ii_vectors::items::reads_items;
 use cbor4ii_vectors::readers::TestReader;
-use cbor4ii_vectors::rows::{Row, reads_rows, writes_in};
+use cbor4ii_vectors::rows::{Called, writes_in};
 use cbor4ii_vectors::table;
 use std::test::Fail;
 
-const NOTHING: &[Row<Nothing>] = table! {
-    (b"", Ok(Nothing), b""),
-    (b"\x05", Ok(Nothing), b"\x05"),
+const NOTHING: &[Called] = table! {
+    ("Nothing", b"", Ok("Nothing"), b""),
+    ("Nothing", b"\x05", Ok("Nothing"), b"\x05"),
 };
 
 #[test]
 fn nothing(rt: HostRuntime) -> Result<(), Fail> {
     let alloc = rt.alloc();
     writes_in(alloc, &Nothing, b"", 0)?;
-    reads_rows(alloc, NOTHING)
+    reads_items(alloc, NOTHING)
 }
 
 // A reader that fails at its first show is not asked for it, and has no step to give.

@@ -2,33 +2,34 @@
 //!
 //! A decoder has to grow as the bytes come, and where memory is found it has to answer the value.
 use cbor4ii_items::types::{Bytes, Map, UncheckedStr};
-use cbor4ii_vectors::rows::{Row, reads_by_each, reads_texts};
+use cbor4ii_vectors::items::{reads_built, reads_items};
+use cbor4ii_vectors::rows::Called;
 use cbor4ii_vectors::{eof, table};
 use std::alloc::{AllocError, Global};
 use std::test::Fail;
 
-const LENGTHS_WITHOUT_BYTES: &[Row<&str>] = table! {
-    (b"\x5b\xff\xff\xff\xff\xff\xff\xff\xff", Err(eof!("bytes", Big)), b""),
-    (b"\x5b\x00\x00\x7f\xff\xff\xff\xff\xff", Err(eof!("bytes", Big)), b""),
-    (b"\x5f\x5b\xff\xff\xff\xff\xff\xff\xff\xff", Err(eof!("bytes", Big)), b""),
-    (b"\x5f\x41\x00\x5b\x00\x00\x7f\xff\xff\xff\xff\xff", Err(eof!("bytes", Big)), b""),
+const LENGTHS_WITHOUT_BYTES: &[Called] = table! {
+    ("Bytes<Vec<u8>>", b"\x5b\xff\xff\xff\xff\xff\xff\xff\xff", Err(eof!("bytes", Big)), b""),
+    ("Bytes<Vec<u8>>", b"\x5b\x00\x00\x7f\xff\xff\xff\xff\xff", Err(eof!("bytes", Big)), b""),
+    ("Bytes<Vec<u8>>", b"\x5f\x5b\xff\xff\xff\xff\xff\xff\xff\xff", Err(eof!("bytes", Big)), b""),
+    ("Bytes<Vec<u8>>", b"\x5f\x41\x00\x5b\x00\x00\x7f\xff\xff\xff\xff\xff", Err(eof!("bytes", Big)), b""),
 };
 
 // A length that the bytes do not carry reserves no more than 16384 bytes, whatever it says: no
 // machine has so much.
 #[test]
 fn lengths_without_bytes(rt: HostRuntime) -> Result<(), Fail> {
-    reads_texts::<Bytes<Vec<u8>>>(rt.alloc(), LENGTHS_WITHOUT_BYTES)
+    reads_items(rt.alloc(), LENGTHS_WITHOUT_BYTES)
 }
 
-const LENGTHS_WITHOUT_ITEMS: &[Row<&str>] = table! {
-    (b"\x9b\xff\xff\xff\xff\xff\xff\xff\xff\x01", Err(eof!("u64", 1)), b""),
+const LENGTHS_WITHOUT_ITEMS: &[Called] = table! {
+    ("Vec<u64>", b"\x9b\xff\xff\xff\xff\xff\xff\xff\xff\x01", Err(eof!("u64", 1)), b""),
 };
 
 // Places for no more than 256 items are reserved.
 #[test]
 fn lengths_without_items(rt: HostRuntime) -> Result<(), Fail> {
-    reads_texts::<Vec<u64>>(rt.alloc(), LENGTHS_WITHOUT_ITEMS)
+    reads_items(rt.alloc(), LENGTHS_WITHOUT_ITEMS)
 }
 
 // The numbers from 0 to 22, over and over.
@@ -54,16 +55,16 @@ fn between(
 }
 
 // 300 items between a head and an end.
-fn reads_items(alloc: Global, head: &[u8], end: &[u8]) -> Result<(), Fail> {
+fn reads_300_items(alloc: Global, head: &[u8], end: &[u8]) -> Result<(), Fail> {
     let bytes = between(alloc, head, &numbers(alloc, 300)?, end)?;
-    reads_by_each(alloc, bytes, 256, &Ok(numbers(alloc, 300)?), b"")
+    reads_built(alloc, "Vec<u8>", bytes, numbers(alloc, 300)?)
 }
 
 #[test]
 fn arrays_of_300_items(rt: HostRuntime) -> Result<(), Fail> {
     let alloc = rt.alloc();
-    reads_items(alloc, b"\x99\x01\x2c", b"")?;
-    reads_items(alloc, b"\x9f", b"\xff")
+    reads_300_items(alloc, b"\x99\x01\x2c", b"")?;
+    reads_300_items(alloc, b"\x9f", b"\xff")
 }
 
 fn pairs(alloc: Global, items: &[u8]) -> Result<Vec<(u8, u8)>, AllocError> {
@@ -78,7 +79,12 @@ fn pairs(alloc: Global, items: &[u8]) -> Result<Vec<(u8, u8)>, AllocError> {
 fn reads_pairs(alloc: Global, head: &[u8], end: &[u8]) -> Result<(), Fail> {
     let items = numbers(alloc, 600)?;
     let bytes = between(alloc, head, &items, end)?;
-    reads_by_each(alloc, bytes, 256, &Ok(Map(pairs(alloc, &items)?)), b"")
+    reads_built(
+        alloc,
+        "Map<Vec<(u8, u8)>>",
+        bytes,
+        Map(pairs(alloc, &items)?),
+    )
 }
 
 #[test]
@@ -101,7 +107,12 @@ fn in_chunks(alloc: Global, content: &[u8], head: u8) -> Result<Vec<u8>, AllocEr
 // 20,000 bytes, as they stand between a head and an end: a byte string.
 fn reads_bytes(alloc: Global, head: &[u8], inner: &[u8], end: &[u8]) -> Result<(), Fail> {
     let bytes = between(alloc, head, inner, end)?;
-    reads_by_each(alloc, bytes, 256, &Ok(Bytes(numbers(alloc, 20_000)?)), b"")
+    reads_built(
+        alloc,
+        "Bytes<Vec<u8>>",
+        bytes,
+        Bytes(numbers(alloc, 20_000)?),
+    )
 }
 
 #[test]
@@ -119,9 +130,9 @@ fn byte_strings_of_20000_bytes(rt: HostRuntime) -> Result<(), Fail> {
 fn reads_text(alloc: Global, head: &[u8], inner: &[u8], end: &[u8]) -> Result<(), Fail> {
     let bytes = between(alloc, head, inner, end)?;
     let unchecked = UncheckedStr(numbers(alloc, 20_000)?);
-    reads_by_each(alloc, bytes, 256, &Ok(unchecked), b"")?;
+    reads_built(alloc, "UncheckedStr<Vec<u8>>", bytes, unchecked)?;
     let text = String::from_utf8(numbers(alloc, 20_000)?)?;
-    reads_by_each(alloc, bytes, 256, &Ok(text), b"")
+    reads_built(alloc, "String", bytes, text)
 }
 
 #[test]

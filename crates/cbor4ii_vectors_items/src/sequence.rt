@@ -100,9 +100,9 @@ const ASKED: &[(&[u8], usize, usize)] = table! {
     (b"\x19\x01\x00", 3, 6),
 };
 
-fn asks_rows<T: ReadFrom + Drop>(
+fn asks_rows<T: ReadFrom>(
     alloc: Global,
-    rows: &[(&[u8], usize, usize)],
+    rows: &[(&'static [u8], usize, usize)],
 ) -> Result<(), Fail> {
     for &(bytes, looks, by_byte) in rows {
         let most = bytes.len().max(1);

@@ -1,13 +1,11 @@
 //! Rows of tags: their numbers alone, and tagged items.
 use crate::borrowed_rows::Kind::Tagged;
 use crate::borrowed_rows::{BorrowedRow, lends_rows, rows_alike};
-use cbor4ii_items::types::{Bytes, F64, Tag};
+use cbor4ii_items::types::{Bytes, Tag};
 use cbor4ii_rw::error::DecodeError;
 use cbor4ii_rw::read::Source;
-use cbor4ii_vectors::rows::{
-    ReadFrom, Row, RowWithin, reads_rows, reads_rows_within, reads_texts, texts_go_both_ways,
-    writes_rows,
-};
+use cbor4ii_vectors::items::{items_go_both_ways, reads_items, reads_items_within};
+use cbor4ii_vectors::rows::{Called, CalledWithin, ReadFrom, Row, reads_rows, writes_rows};
 use cbor4ii_vectors::{eof, mismatch, table};
 use std::alloc::Global;
 use std::test::Fail;
@@ -70,32 +68,32 @@ const TAGGED_FLOATS: &[(&[u8], &str, usize)] = table! {
 #[test]
 fn tagged_items(rt: HostRuntime) -> Result<(), Fail> {
     let alloc = rt.alloc();
-    texts_go_both_ways::<Tag<String>>(alloc, TAGGED_TEXTS)?;
-    texts_go_both_ways::<Tag<u32>>(alloc, TAGGED_SECONDS)?;
-    texts_go_both_ways::<Tag<F64>>(alloc, TAGGED_FLOATS)
+    items_go_both_ways(alloc, "Tag<String>", TAGGED_TEXTS)?;
+    items_go_both_ways(alloc, "Tag<u32>", TAGGED_SECONDS)?;
+    items_go_both_ways(alloc, "Tag<F64>", TAGGED_FLOATS)
 }
 
-const TAGGED_NUMBERS: &[Row<Tag<u8>>] = table! {
-    (b"\xc1\x18\x05", Ok(Tag(1, 5)), b""),
-    (b"\xda\xff\xff\xff\xff\x05", Ok(Tag(4294967295, 5)), b""),
-    (b"\xdb\x00\x00\x00\x01\x00\x00\x00\x00\x05", Ok(Tag(4294967296, 5)), b""),
-    (b"\xdb\xff\xff\xff\xff\xff\xff\xff\xff\x05", Ok(Tag(18446744073709551615, 5)), b""),
-    (b"", Err(eof!("tag", 1)), b""),
-    (b"\xd9\x01", Err(eof!("tag", 2)), b""),
-    (b"\x05", Err(mismatch!("tag", 0x05)), b""),
-    (b"\xdc\x05", Err(mismatch!("tag", 0xdc)), b"\x05"),
-    (b"\xc1", Err(eof!("u8", 1)), b""),
-    (b"\xc1\x19\x00\x05", Err(mismatch!("u8", 0x19)), b"\x00\x05"),
+const TAGGED_NUMBERS: &[Called] = table! {
+    ("Tag<u8>", b"\xc1\x18\x05", Ok("Tag(1, 5)"), b""),
+    ("Tag<u8>", b"\xda\xff\xff\xff\xff\x05", Ok("Tag(4294967295, 5)"), b""),
+    ("Tag<u8>", b"\xdb\x00\x00\x00\x01\x00\x00\x00\x00\x05", Ok("Tag(4294967296, 5)"), b""),
+    ("Tag<u8>", b"\xdb\xff\xff\xff\xff\xff\xff\xff\xff\x05", Ok("Tag(18446744073709551615, 5)"), b""),
+    ("Tag<u8>", b"", Err(eof!("tag", 1)), b""),
+    ("Tag<u8>", b"\xd9\x01", Err(eof!("tag", 2)), b""),
+    ("Tag<u8>", b"\x05", Err(mismatch!("tag", 0x05)), b""),
+    ("Tag<u8>", b"\xdc\x05", Err(mismatch!("tag", 0xdc)), b"\x05"),
+    ("Tag<u8>", b"\xc1", Err(eof!("u8", 1)), b""),
+    ("Tag<u8>", b"\xc1\x19\x00\x05", Err(mismatch!("u8", 0x19)), b"\x00\x05"),
 };
 
 #[test]
 fn tagged_numbers(rt: HostRuntime) -> Result<(), Fail> {
-    reads_rows(rt.alloc(), TAGGED_NUMBERS)
+    reads_items(rt.alloc(), TAGGED_NUMBERS)
 }
 
-const TAGGED_BYTE_STRINGS: &[Row<&str>] = table! {
-    (b"\xd7\x44\x01\x02\x03\x04", Ok("Tag(23, Bytes([1, 2, 3, 4]))"), b""),
-    (b"\xd8\x18\x45dIETF", Ok("Tag(24, Bytes([100, 73, 69, 84, 70]))"), b""),
+const TAGGED_BYTE_STRINGS: &[Called] = table! {
+    ("Tag<Bytes<Vec<u8>>>", b"\xd7\x44\x01\x02\x03\x04", Ok("Tag(23, Bytes([1, 2, 3, 4]))"), b""),
+    ("Tag<Bytes<Vec<u8>>>", b"\xd8\x18\x45dIETF", Ok("Tag(24, Bytes([100, 73, 69, 84, 70]))"), b""),
 };
 
 const WRITTEN_TAGGED_BYTE_STRINGS: &[(Tag<Bytes<&[u8]>>, &[u8], usize)] = table! {
@@ -107,40 +105,40 @@ const WRITTEN_TAGGED_BYTE_STRINGS: &[(Tag<Bytes<&[u8]>>, &[u8], usize)] = table!
 fn tagged_byte_strings(rt: HostRuntime) -> Result<(), Fail> {
     let alloc = rt.alloc();
     writes_rows(alloc, WRITTEN_TAGGED_BYTE_STRINGS)?;
-    reads_texts::<Tag<Bytes<Vec<u8>>>>(alloc, TAGGED_BYTE_STRINGS)
+    reads_items(alloc, TAGGED_BYTE_STRINGS)
 }
 
-const TAGGED_ARRAYS: &[Row<&str>] = table! {
-    (b"\xc1\x81\x07", Ok("Tag(1, [7])"), b""),
+const TAGGED_ARRAYS: &[Called] = table! {
+    ("Tag<Vec<u8>>", b"\xc1\x81\x07", Ok("Tag(1, [7])"), b""),
 };
 
 #[test]
 fn tagged_arrays(rt: HostRuntime) -> Result<(), Fail> {
-    reads_texts::<Tag<Vec<u8>>>(rt.alloc(), TAGGED_ARRAYS)
+    reads_items(rt.alloc(), TAGGED_ARRAYS)
 }
 
-const LEAST_AND_GREATEST: &[RowWithin<Tag<u8>>] = table! {
-    (b"\xc1\x05", 0, Ok(Tag(1, 5)), b""),
-    (b"\xc1\x05", usize::MAX, Ok(Tag(1, 5)), b""),
+const LEAST_AND_GREATEST: &[CalledWithin] = table! {
+    ("Tag<u8>", b"\xc1\x05", 0, Ok("Tag(1, 5)"), b""),
+    ("Tag<u8>", b"\xc1\x05", usize::MAX, Ok("Tag(1, 5)"), b""),
 };
 
 // What takes no step is read where none is left, and as many as a limit can be do not run over.
 #[test]
 fn the_least_and_the_greatest_limit(rt: HostRuntime) -> Result<(), Fail> {
-    reads_rows_within(rt.alloc(), LEAST_AND_GREATEST)
+    reads_items_within(rt.alloc(), LEAST_AND_GREATEST)
 }
 
 // Before the tagged item comes, the tag is rejected alike over every reader.
 const BEFORE_A_BORROWED_ITEM: &[BorrowedRow] = table! {
-    (Tagged, b"", eof!("tag", 1), b""),
-    (Tagged, b"\xd8", eof!("tag", 1), b""),
-    (Tagged, b"\x00\x01", mismatch!("tag", 0x00), b"\x01"),
-    (Tagged, b"\xc1", eof!("str", 1), b""),
+    (Tagged, b"", Err(eof!("tag", 1)), b""),
+    (Tagged, b"\xd8", Err(eof!("tag", 1)), b""),
+    (Tagged, b"\x00\x01", Err(mismatch!("tag", 0x00)), b"\x01"),
+    (Tagged, b"\xc1", Err(eof!("str", 1)), b""),
 };
 
 // With its item lent, the tag is read.
 const BORROWED_ITEMS: &[BorrowedRow] = table! {
-    (Tagged, b"\xc1\x61a", "Tag(1, \"a\")", b""),
+    (Tagged, b"\xc1\x61a", Ok("Tag(1, \"a\")"), b""),
 };
 
 #[test]

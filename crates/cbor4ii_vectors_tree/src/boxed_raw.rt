@@ -4,7 +4,7 @@
 //! `decode_value/errors.rt`.
 use crate::ignored::ITEMS;
 use crate::literal::Literal::{self, Integer, Null};
-use crate::plain_raw::{Copied, ITEM, MAP, wanted};
+use crate::plain_raw::{ITEM, MAP};
 use cbor4ii_items::decode::Decode;
 use cbor4ii_items::types::Map;
 use cbor4ii_rw::error::{DecodeError, Never};
@@ -13,21 +13,10 @@ use cbor4ii_rw::segment_reader::SegmentReader;
 use cbor4ii_rw::slice_reader::SliceReader;
 use cbor4ii_tree::{BoxedRawValue, Value};
 use cbor4ii_vectors::readers::Counting;
-use cbor4ii_vectors::rows::{Want, leaves, reads_over, steps, writes_in};
+use cbor4ii_vectors::rows::{leaves, steps, writes_in};
 use cbor4ii_vectors::table;
 use std::alloc::{AllocError, Global};
 use std::test::Fail;
-
-#[test]
-fn within_a_limit(rt: HostRuntime) -> Result<(), Fail> {
-    copies_within(rt.alloc(), b"\x81\x00", 2)
-}
-
-fn copies_within(alloc: Global, item: &'static [u8], limit: usize) -> Result<(), Fail> {
-    let want: Want<Copied> = wanted(alloc, Ok(item))?;
-    let mut reader = SliceReader::with_limit(item, limit);
-    reads_over(alloc, &mut reader, item, &want, b"")
-}
 
 // {[1, 2]: [3]}, whose key and value are kept.
 const PAIR: &[u8] = b"\xa1\x82\x01\x02\x81\x03";

@@ -229,7 +229,7 @@ fn few_looks(rt: HostRuntime) -> Result<(), Fail> {
 
 fn looks_few_times(alloc: Global, rows: &[(&[u8], usize, &[u8], usize)]) -> Result<(), Fail> {
     for &(head, count, item, most) in rows {
-        let looks = looks(alloc, &repeated(alloc, head, count, item)?)?;
+        let looks = looks(alloc, repeated(alloc, head, count, item)?.leak())?;
         if looks > most {
             return Err(Fail::new(format_args!("{looks} looks at {item:?}")));
         }
@@ -237,7 +237,7 @@ fn looks_few_times(alloc: Global, rows: &[(&[u8], usize, &[u8], usize)]) -> Resu
     Ok(())
 }
 
-fn looks(alloc: Global, bytes: &[u8]) -> Result<usize, Fail> {
+fn looks(alloc: Global, bytes: &'static [u8]) -> Result<usize, Fail> {
     let (_, asks) = asks::<Item<IgnoredAny>>(alloc, Asked::new(bytes).wide(), bytes)?;
     Ok(asks.looks)
 }
@@ -266,7 +266,7 @@ fn what_skipping_asks_for(rt: HostRuntime) -> Result<(), Fail> {
     asks_rows(rt.alloc(), ASKED)
 }
 
-fn asks_rows(alloc: Global, rows: &[(&[u8], usize, usize, usize)]) -> Result<(), Fail> {
+fn asks_rows(alloc: Global, rows: &[(&'static [u8], usize, usize, usize)]) -> Result<(), Fail> {
     for &(bytes, most, looks, by_byte) in rows {
         let reader = Asked::new(bytes).refusing_above(most);
         looks_at_most::<Item<IgnoredAny>>(alloc, reader, bytes, true, looks, bytes.len())?;

@@ -3,13 +3,15 @@ use cbor4ii_items::decode::{Decodable, Decode};
 use cbor4ii_items::types::Map;
 use cbor4ii_rw::error::{DecodeError, Len, Never, WholeError};
 use cbor4ii_rw::read::Source;
+use cbor4ii_rw::segment_reader::SegmentReader;
 use cbor4ii_rw::slice_reader::SliceReader;
 use cbor4ii_tree::{BoxedRawValue, PlainRawValue, RawValue};
+use cbor4ii_vectors::readers::TestReader;
 use cbor4ii_vectors::repeated::repeated;
-use cbor4ii_vectors::rows::{ReadBy, Want};
+use cbor4ii_vectors::rows::{Answered, Content, Stream, Want, Way};
 use cbor4ii_vectors::table;
 use std::alloc::{AllocError, Global};
-use std::marker::PhantomData;
+use std::borrow::CowSlice;
 use std::test::Fail;
 
 // Items of RFC 8949, appendix A.
@@ -111,60 +113,97 @@ fn other_beginnings_are_rejected(rt: HostRuntime) -> Result<(), Fail> {
     Ok(())
 }
 
-/// An item that is kept as its bytes.
-pub trait Kept {
-    fn item(&self) -> &[u8];
+/// How an item is kept: lent, or as a copy of its bytes. It stands alone, or under the one key of a
+/// map.
+#[derive(Clone, Copy)]
+pub enum Kept {
+    Lent,
+    Copied,
+    LentUnderKey,
+    CopiedUnderKey,
 }
 
-impl Kept for RawValue<'_> {
-    fn item(&self) -> &[u8] {
-        self.as_bytes()
-    }
-}
-
-impl Kept for BoxedRawValue {
-    fn item(&self) -> &[u8] {
-        self.as_bytes()
-    }
-}
-
-/// The bytes of an item that is read as a `T`.
-#[derive(Debug, PartialEq, Drop)]
-pub struct BytesOf<T> {
-    bytes: Vec<u8>,
-    of: PhantomData<T>,
-}
-
-impl<T> BytesOf<T> {
-    pub fn new(alloc: Global, item: &[u8]) -> Result<BytesOf<T>, AllocError> {
-        Ok(BytesOf {
-            bytes: item.to_vec(alloc)?,
-            of: PhantomData,
-        })
-    }
-}
-
-impl<S: Source, T: Decodable + Decode<S> + Kept + Drop> ReadBy<S> for BytesOf<T> {
-    fn read_by(alloc: Global, reader: &mut S) -> Result<BytesOf<T>, DecodeError<S::Error>> {
-        let kept = T::decode(alloc, reader)?;
-        match BytesOf::new(alloc, kept.item()) {
-            Ok(bytes) => Ok(bytes),
-            Err(_) => Err(DecodeError::OutOfMemory),
+impl Kept {
+    /// What a row wants of the item that is kept so.
+    pub fn wanted(self, alloc: Global, want: Want<&[u8]>) -> Result<Want<Content>, AllocError> {
+        let is_lent = matches!(self, Kept::Lent | Kept::LentUnderKey);
+        match want {
+            Ok(item) => Ok(Ok(Content::new(alloc, item, is_lent)?)),
+            Err(rejection) => Ok(Err(rejection)),
         }
     }
 }
 
-/// The bytes of an item that is lent.
-pub type Lent = BytesOf<RawValue<'static>>;
+/// What is read has these bytes, lent or copied. It stands once for the readers, which lend in
+/// different ways.
+macro_rules! read_as {
+    ($kept:expr, $alloc:ident, $reader:ident) => {{
+        let mut reader = $reader;
+        let got = match $kept {
+            Kept::Lent => lent($alloc, RawValue::decode($alloc, &mut reader)),
+            Kept::Copied => copied($alloc, BoxedRawValue::decode($alloc, &mut reader)),
+            Kept::LentUnderKey => lent($alloc, under_key($alloc, &mut reader)),
+            Kept::CopiedUnderKey => copied($alloc, under_key($alloc, &mut reader)),
+        };
+        (got, reader)
+    }};
+}
 
-/// The bytes of an item that is copied.
-pub type Copied = BytesOf<BoxedRawValue>;
+type Read<S> = Answered<Content, S>;
 
-/// What a row wants of an item that is read as a `T`.
-pub fn wanted<T>(alloc: Global, want: Want<&[u8]>) -> Result<Want<BytesOf<T>>, AllocError> {
-    match want {
-        Ok(item) => Ok(Ok(BytesOf::new(alloc, item)?)),
-        Err(rejection) => Ok(Err(rejection)),
+impl Way<Content, SliceReader<'static>> for Kept {
+    fn read(&self, alloc: Global, reader: SliceReader<'static>) -> Read<SliceReader<'static>> {
+        read_as!(self, alloc, reader)
+    }
+}
+
+impl Way<Content, SegmentReader<'static>> for Kept {
+    fn read(&self, alloc: Global, reader: SegmentReader<'static>) -> Read<SegmentReader<'static>> {
+        read_as!(self, alloc, reader)
+    }
+}
+
+impl Way<Content, TestReader<'static>> for Kept {
+    fn read(&self, alloc: Global, reader: TestReader<'static>) -> Read<TestReader<'static>> {
+        read_as!(self, alloc, reader)
+    }
+}
+
+impl Way<Content, Stream> for Kept {
+    fn read(&self, alloc: Global, reader: Stream) -> Read<Stream> {
+        read_as!(self, alloc, reader)
+    }
+}
+
+fn lent<E>(
+    alloc: Global,
+    got: Result<RawValue<'static>, DecodeError<E>>,
+) -> Result<Content, DecodeError<E>> {
+    Content::of(alloc, CowSlice::Borrowed(got?.as_bytes()))
+}
+
+fn copied<E>(
+    alloc: Global,
+    got: Result<BoxedRawValue, DecodeError<E>>,
+) -> Result<Content, DecodeError<E>> {
+    match Content::new(alloc, got?.as_bytes(), false) {
+        Ok(content) => Ok(content),
+        Err(_) => Err(DecodeError::OutOfMemory),
+    }
+}
+
+// The value under the one key of a map.
+fn under_key<S: Source, T: Decodable + Decode<S> + Drop>(
+    alloc: Global,
+    reader: &mut S,
+) -> Result<T, DecodeError<S::Error>> {
+    let mut map = <Map<Vec<(String, T)>>>::decode(alloc, reader)?;
+    match (map.0.pop(), map.0.is_empty()) {
+        (Some((_, value)), true) => Ok(value),
+        _ => Err(DecodeError::Custom {
+            name: "not one pair",
+            num: 0,
+        }),
     }
 }
 
@@ -172,23 +211,3 @@ pub fn wanted<T>(alloc: Global, want: Want<&[u8]>) -> Result<Want<BytesOf<T>>, A
 pub const MAP: &[u8] = b"\xa1\x63bar\xa1\x65value\x18\x99";
 
 pub const ITEM: &[u8] = b"\xa1\x65value\x18\x99";
-
-/// The bytes of the item under the one key of a map, which is read as a `T`.
-#[derive(Debug, PartialEq, Drop)]
-pub struct UnderKey<T>(pub BytesOf<T>);
-
-impl<S: Source, T: Decodable + Decode<S> + Kept + Drop> ReadBy<S> for UnderKey<T> {
-    fn read_by(alloc: Global, reader: &mut S) -> Result<UnderKey<T>, DecodeError<S::Error>> {
-        let map = <Map<Vec<(String, T)>>>::decode(alloc, reader)?;
-        let [(_, kept)] = map.0.as_slice() else {
-            return Err(DecodeError::Custom {
-                name: "not one pair",
-                num: 0,
-            });
-        };
-        match BytesOf::new(alloc, kept.item()) {
-            Ok(bytes) => Ok(UnderKey(bytes)),
-            Err(_) => Err(DecodeError::OutOfMemory),
-        }
-    }
-}

@@ -3,15 +3,15 @@
 //! Rows that hold of `BoxedRawValue` alike are tried of both here. What skipping rejects is
 //! rejected of both in `decode_value/errors.rt`.
 use crate::ignored::ITEMS;
-use crate::plain_raw::{BytesOf, Copied, ITEM, Lent, MAP, UnderKey, wanted};
+use crate::plain_raw::{ITEM, Kept, MAP};
 use cbor4ii_items::decode::Decode;
 use cbor4ii_items::types::Map;
 use cbor4ii_rw::error::{DecodeError, Len, WholeError};
 use cbor4ii_rw::segment_reader::SegmentReader;
 use cbor4ii_rw::slice_reader::SliceReader;
-use cbor4ii_tree::{BoxedRawValue, RawValue, Value};
+use cbor4ii_tree::{RawValue, Value};
 use cbor4ii_vectors::readers::{Counting, TestReader};
-use cbor4ii_vectors::rows::{RowWithin, Want, leaves, lends, lends_short, reads_over, writes_in};
+use cbor4ii_vectors::rows::{RowWithin, Trial, Want, leaves, writes_in};
 use cbor4ii_vectors::{eof, no_step, require_borrowed, table};
 use std::alloc::Global;
 use std::test::Fail;
@@ -26,8 +26,11 @@ const FAILED: &str = "Read(Failure)";
 
 // With a fault at each fill too.
 fn keeps(alloc: Global, bytes: &'static [u8], want: Want<&[u8]>, rest: &[u8]) -> Result<(), Fail> {
-    lends::<Lent>(alloc, bytes, wanted(alloc, want)?, rest)?;
-    lends::<Copied>(alloc, bytes, wanted(alloc, want)?, rest)
+    for kept in [Kept::Lent, Kept::Copied] {
+        let want = kept.wanted(alloc, want)?;
+        Trial::new(&kept, alloc, bytes, &want, rest).lent_and_alone()?;
+    }
+    Ok(())
 }
 
 #[test]
@@ -57,21 +60,20 @@ fn is_lent(alloc: Global, item: &[u8]) -> Result<(), Fail> {
 }
 
 fn lends_segment(alloc: Global, item: &'static [u8]) -> Result<(), Fail> {
-    let lent: Want<Lent> = wanted(alloc, Ok(item))?;
+    let want = Kept::Lent.wanted(alloc, Ok(item))?;
     let segments = Vec::from_slice(alloc, &[item, b"\x00".as_slice()])?.leak();
-    let mut reader = SegmentReader::new(segments);
-    reads_over(alloc, &mut reader, b"\x00", &lent, b"\x00")
+    let trial = Trial::new(&Kept::Lent, alloc, b"\x00", &want, b"\x00");
+    trial.over(SegmentReader::new(segments))
 }
 
 #[test]
 fn within_a_limit(rt: HostRuntime) -> Result<(), Fail> {
-    lends_within(rt.alloc(), b"\x81\x00", 2)
-}
-
-fn lends_within(alloc: Global, item: &'static [u8], limit: usize) -> Result<(), Fail> {
-    let want: Want<Lent> = wanted(alloc, Ok(item))?;
-    let mut reader = SliceReader::with_limit(item, limit);
-    reads_over(alloc, &mut reader, item, &want, b"")
+    for kept in [Kept::Lent, Kept::Copied] {
+        let want = kept.wanted(rt.alloc(), Ok(b"\x81\x00"))?;
+        let trial = Trial::new(&kept, rt.alloc(), b"\x81\x00", &want, b"");
+        trial.over(SliceReader::with_limit(b"\x81\x00", 2))?;
+    }
+    Ok(())
 }
 
 // A prefix of an item that ends too early is the end of the input, and nothing moves.
@@ -152,16 +154,15 @@ fn short_bytes(rt: HostRuntime) -> Result<(), Fail> {
 
 fn keeps_no_short_bytes(alloc: Global, rows: &[(&'static [u8], &'static str)]) -> Result<(), Fail> {
     for &(bytes, rejection) in rows {
-        lends_short::<Lent>(alloc, bytes, Err(rejection), bytes)?;
-        lends_short::<Copied>(alloc, bytes, Err(rejection), bytes)?;
+        Trial::new(&Kept::Lent, alloc, bytes, &Err(rejection), bytes).copied()?;
+        Trial::new(&Kept::Copied, alloc, bytes, &Err(rejection), bytes).copied()?;
     }
     Ok(())
 }
 
 fn lends_no_step(alloc: Global) -> Result<(), Fail> {
-    let want: Want<Lent> = Err(NOT_LENT);
-    let mut reader = TestReader::short(b"\x00", 0);
-    reads_over(alloc, &mut reader, b"\x00", &want, b"\x00")
+    let trial = Trial::new(&Kept::Lent, alloc, b"\x00", &Err(NOT_LENT), b"\x00");
+    trial.over(TestReader::short(b"\x00", 0))
 }
 
 // Bytes, steps, what is kept, and what is left.
@@ -182,25 +183,16 @@ fn one_byte_at_a_time(rt: HostRuntime) -> Result<(), Fail> {
 
 fn keeps_by_byte(alloc: Global, rows: &[KeptWithin]) -> Result<(), Fail> {
     for &(bytes, limit, want, rest) in rows {
-        let lent: Want<Lent> = wanted(alloc, want)?;
-        let mut reader = TestReader::long(bytes, limit);
-        reads_over(alloc, &mut reader, bytes, &lent, rest)?;
-        let copied: Want<Copied> = wanted(alloc, want)?;
-        let mut reader = TestReader::long(bytes, limit);
-        reads_over(alloc, &mut reader, bytes, &copied, rest)?;
-        fails_at_once(alloc, bytes, limit)?;
+        for kept in [Kept::Lent, Kept::Copied] {
+            let want = kept.wanted(alloc, want)?;
+            let trial = Trial::new(&kept, alloc, bytes, &want, rest);
+            trial.over(TestReader::long(bytes, limit))?;
+            // A reader that fails as it is asked: its error, and nothing moves.
+            let trial = Trial::new(&kept, alloc, bytes, &Err(FAILED), bytes);
+            trial.over(TestReader::long(bytes, limit).failing_after(0))?;
+        }
     }
     Ok(())
-}
-
-// A reader that fails as it is asked: its error, and nothing moves.
-fn fails_at_once(alloc: Global, bytes: &'static [u8], limit: usize) -> Result<(), Fail> {
-    let want: Want<Lent> = Err(FAILED);
-    let mut reader = TestReader::long(bytes, limit).failing_after(0);
-    reads_over(alloc, &mut reader, bytes, &want, bytes)?;
-    let want: Want<Copied> = Err(FAILED);
-    let mut reader = TestReader::long(bytes, limit).failing_after(0);
-    reads_over(alloc, &mut reader, bytes, &want, bytes)
 }
 
 // The bytes of [1, 2] and 3 in segments, what is kept, and what is left.
@@ -217,14 +209,12 @@ fn items_in_segments(rt: HostRuntime) -> Result<(), Fail> {
 }
 
 fn keeps_in_segments(alloc: Global, rows: &[InSegments]) -> Result<(), Fail> {
-    let bytes = b"\x82\x01\x02\x03";
     for &(segments, want, rest) in rows {
-        let lent: Want<Lent> = wanted(alloc, want)?;
-        let mut reader = SegmentReader::new(segments);
-        reads_over(alloc, &mut reader, bytes, &lent, rest)?;
-        let copied: Want<Copied> = wanted(alloc, want)?;
-        let mut reader = SegmentReader::new(segments);
-        reads_over(alloc, &mut reader, bytes, &copied, rest)?;
+        for kept in [Kept::Lent, Kept::Copied] {
+            let want = kept.wanted(alloc, want)?;
+            let trial = Trial::new(&kept, alloc, b"\x82\x01\x02\x03", &want, rest);
+            trial.over(SegmentReader::new(segments))?;
+        }
     }
     Ok(())
 }
@@ -306,10 +296,11 @@ fn writes_lent(alloc: Global, item: &[u8]) -> Result<(), Fail> {
 #[test]
 fn items_under_a_key_where_readers_fail(rt: HostRuntime) -> Result<(), Fail> {
     let alloc = rt.alloc();
-    let want = UnderKey(BytesOf::<RawValue<'static>>::new(alloc, ITEM)?);
-    lends(alloc, MAP, Ok(want), b"")?;
-    let want = UnderKey(BytesOf::<BoxedRawValue>::new(alloc, ITEM)?);
-    lends(alloc, MAP, Ok(want), b"")
+    for kept in [Kept::LentUnderKey, Kept::CopiedUnderKey] {
+        let want = kept.wanted(alloc, Ok(ITEM))?;
+        Trial::new(&kept, alloc, MAP, &want, b"").lent_and_alone()?;
+    }
+    Ok(())
 }
 
 #[test]

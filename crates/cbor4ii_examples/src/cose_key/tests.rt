@@ -1,12 +1,11 @@
 //! Rows of a struct whose keys are integers.
 use crate::cose_key::CoseKey;
-use cbor4ii::serde::described_values_are_read_back;
+use crate::recipes::tries_recipe;
+use cbor4ii::dec::Source;
+use cbor4ii::serde::{Deserialize, described_values_are_read_back};
 use cbor4ii_vectors::{mismatch, table};
-use cbor4ii_vectors_de::takes;
-use cbor4ii_vectors_de::typed::{Answer, BothShown, RowShown, tries_shown};
+use cbor4ii_vectors_de::typed::{BothShown, RowShown};
 use std::test::Fail;
-
-takes!(CoseKey);
 
 // The second has the public key of RFC 8032 section 7.1, test 1, for EdDSA, which is -8.
 const KEYS_BOTH: &[BothShown] = table! {
@@ -33,7 +32,7 @@ const KEYS: &[RowShown] = table! {
 
 #[test]
 fn keys_are_written_and_read(rt: HostRuntime) -> Result<(), Fail> {
-    tries_shown::<Answer<CoseKey>>(rt.alloc(), KEYS_BOTH, KEYS, &[])
+    tries_recipe(rt.alloc(), "CoseKey", KEYS_BOTH, KEYS, &[])
 }
 
 #[test]

@@ -3,7 +3,8 @@ ghost use Rattle.std.specs.Prelude.{codes};
 ghost use Rattle.cbor4ii_ser.specs.Item.{variant_encoding};
 ghost use Rattle.cbor4ii_examples.specs.declared.enumeration.tests.Letters.TheVariants.{A};
 
-use crate::enumeration::{Enum, read_enum};
+use crate::enumeration::Enum;
+use crate::recipes::tries_recipe;
 use cbor4ii::dec::Source;
 use cbor4ii::enc::Write;
 use cbor4ii::error::{Never, StaticStr};
@@ -13,19 +14,10 @@ use cbor4ii::serde::{
     Otherwise, Required, Serialize, Serializer, Typed, Unit, to_writer,
 };
 use cbor4ii_vectors::{mismatch, no_step, table};
-use cbor4ii_vectors_de::takes;
-use cbor4ii_vectors_de::typed::{
-    Answer, BothShown, Got, RowShown, RowShownWithin, Take, come_back, tries_shown,
-};
+use cbor4ii_vectors_de::typed::{BothShown, RowShown, RowShownWithin, come_back};
 use std::alloc::Global;
 use std::marker::PhantomData;
 use std::test::Fail;
-
-impl Take for Enum {
-    fn take<S: Source>(alloc: Global, de: &mut Deserializer<S>) -> Got<Enum, S> {
-        read_enum(alloc, de)
-    }
-}
 
 const VARIANTS: &[BothShown] = table! {
     (b"\x64Unit", "Is(Unit)"),
@@ -49,7 +41,13 @@ const VARIANTS_WITHIN: &[RowShownWithin] = table! {
 
 #[test]
 fn variants_are_written_and_read(rt: HostRuntime) -> Result<(), Fail> {
-    tries_shown::<Answer<Enum>>(rt.alloc(), VARIANTS, VARIANTS_READ, VARIANTS_WITHIN)
+    tries_recipe(
+        rt.alloc(),
+        "Enum by hand",
+        VARIANTS,
+        VARIANTS_READ,
+        VARIANTS_WITHIN,
+    )
 }
 
 impl Typed for Enum {}
@@ -94,7 +92,7 @@ fn variants_come_back(rt: HostRuntime) -> Result<(), Fail> {
 
 /// An enum of one variant, which holds a text.
 #[derive(Debug, PartialEq, Drop)]
-enum Letters {
+pub enum Letters {
     A(String),
 }
 
@@ -129,8 +127,6 @@ impl<S: Source> Deserialize<S> for Letters {
     }
 }
 
-takes!(Letters);
-
 // The empty text of the variant is written into a room that is just as long.
 fn is_written_into_room(alloc: Global) -> Result<bool, Fail> {
     let mut room = [0u8; 4];
@@ -143,5 +139,11 @@ fn an_empty_text_in_a_variant_comes_back(rt: HostRuntime) -> Result<(), Fail> {
     let alloc = rt.alloc();
     assert!(rt; is_written_into_room(alloc)?);
     come_back::<Letters>(alloc, &[(b"\xa1\x61A\x60", "A(\"\")")])?;
-    tries_shown::<Answer<Letters>>(alloc, &[(b"\xa1\x61A\x60", "Is(A(\"\"))")], &[], &[])
+    tries_recipe(
+        alloc,
+        "Letters",
+        &[(b"\xa1\x61A\x60", "Is(A(\"\"))")],
+        &[],
+        &[],
+    )
 }

@@ -1,18 +1,14 @@
 //! Rows of an enum, alone and inside other types.
 use crate::event::Event;
+use crate::recipes::tries_recipe;
 use cbor4ii::dec::Source;
 use cbor4ii::enc::Write;
-use cbor4ii::serde::{Deserialize, Deserializer, EncodeError, Serialize, Serializer};
+use cbor4ii::serde::{Deserialize, Deserializer, EncodeError, Serialize, Serializer, Typed};
 use cbor4ii_vectors::{eof, mismatch, no_step, require_length, table};
-use cbor4ii_vectors_de::takes;
-use cbor4ii_vectors_de::typed::{
-    Answer, BothShown, Got, RowShown, RowShownWithin, Take, comes_back, tries_shown,
-};
+use cbor4ii_vectors_de::typed::{BothShown, Got, RowShown, RowShownWithin, comes_back};
 use std::alloc::Global;
 use std::collections::BTreeMap;
 use std::test::Fail;
-
-takes!(Event);
 
 const SAMPLED: &[u8] = b"\xa1\x67Sampled\xa3\x66sensor\x62t1\x65value\x38\x63\x64note\xf6";
 
@@ -55,7 +51,7 @@ const EVENTS_WITHIN: &[RowShownWithin] = table! {
 #[test]
 fn events_are_written_and_read(rt: HostRuntime) -> Result<(), Fail> {
     let alloc = rt.alloc();
-    tries_shown::<Answer<Event>>(alloc, EVENTS, EVENTS_READ, EVENTS_WITHIN)
+    tries_recipe(alloc, "Event", EVENTS, EVENTS_READ, EVENTS_WITHIN)
 }
 
 const ARRAY_OF_EVENTS: &[u8] = b"\x83\x67Started\
@@ -73,7 +69,7 @@ fn a_vector_of_events_comes_back(rt: HostRuntime) -> Result<(), Fail> {
 
 /// Events by their numbers.
 #[derive(Debug, Drop)]
-struct Log(BTreeMap<u8, Event>);
+pub struct Log(BTreeMap<u8, Event>);
 
 impl Serialize for Log {
     ghost encoding = { λ log. ⟦<BTreeMap<u8, Event> as Serialize>⟧.encoding log.0 };
@@ -83,8 +79,10 @@ impl Serialize for Log {
     }
 }
 
-impl Take for Log {
-    fn take<S: Source>(alloc: Global, de: &mut Deserializer<S>) -> Got<Self, S> {
+impl Typed for Log {}
+
+impl<S: Source> Deserialize<S> for Log {
+    fn deserialize(alloc: Global, de: &mut Deserializer<S>) -> Got<Log, S> {
         Ok(Log(BTreeMap::deserialize(alloc, de)?))
     }
 }
@@ -100,8 +98,9 @@ const MAP_OF_EVENTS_SHOWN: &str = "Is(Log({1: Started, \
 
 #[test]
 fn a_map_of_events_is_written_and_read(rt: HostRuntime) -> Result<(), Fail> {
-    tries_shown::<Answer<Log>>(
+    tries_recipe(
         rt.alloc(),
+        "Log",
         &[(MAP_OF_EVENTS, MAP_OF_EVENTS_SHOWN)],
         &[],
         &[],

@@ -1,12 +1,11 @@
 //! Rows of a struct that holds types which hold themselves.
 use crate::forest::Forest;
-use cbor4ii::serde::described_values_are_read_back;
+use crate::recipes::tries_recipe;
+use cbor4ii::dec::Source;
+use cbor4ii::serde::{Deserialize, described_values_are_read_back};
 use cbor4ii_vectors::{no_step, table};
-use cbor4ii_vectors_de::takes;
-use cbor4ii_vectors_de::typed::{Answer, BothShown, RowShown, RowShownWithin, tries_shown};
+use cbor4ii_vectors_de::typed::{BothShown, RowShown, RowShownWithin};
 use std::test::Fail;
-
-takes!(Forest);
 
 const FOREST: &str = "Is(Forest { name: \"F\", trees: [Tree { id: 1, name: \"a\", children: [\
 Tree { id: 2, name: \"\", children: [] }] }], border: Pair(Circle(3), Circle(4)) })";
@@ -38,7 +37,7 @@ const WITHIN: &[RowShownWithin] = table! {
 
 #[test]
 fn forests_are_written_and_read(rt: HostRuntime) -> Result<(), Fail> {
-    tries_shown::<Answer<Forest>>(rt.alloc(), FORESTS, OTHERS, WITHIN)
+    tries_recipe(rt.alloc(), "Forest", FORESTS, OTHERS, WITHIN)
 }
 
 #[test]

@@ -1,11 +1,11 @@
 //! Rows of a newtype.
 use crate::meters::Meters;
+use crate::recipes::tries_recipe;
+use cbor4ii::dec::Source;
+use cbor4ii::serde::Deserialize;
 use cbor4ii_vectors::{mismatch, table};
-use cbor4ii_vectors_de::takes;
-use cbor4ii_vectors_de::typed::{Answer, BothShown, RowShown, comes_back, tries_shown};
+use cbor4ii_vectors_de::typed::{BothShown, RowShown, comes_back};
 use std::test::Fail;
-
-takes!(Meters);
 
 const LENGTHS: &[BothShown] = table! {
     (b"\x17", "Is(Meters(23))"),
@@ -18,7 +18,7 @@ const LENGTHS_REJECTED: &[RowShown] = table! {
 
 #[test]
 fn lengths_are_written_and_read(rt: HostRuntime) -> Result<(), Fail> {
-    tries_shown::<Answer<Meters>>(rt.alloc(), LENGTHS, LENGTHS_REJECTED, &[])
+    tries_recipe(rt.alloc(), "Meters", LENGTHS, LENGTHS_REJECTED, &[])
 }
 
 #[test]

@@ -1,12 +1,11 @@
 //! Rows of a tagged time, alone and as a field of a struct.
 use crate::moment::{Claim, Moment};
-use cbor4ii::serde::described_values_are_read_back;
+use crate::recipes::tries_recipe;
+use cbor4ii::dec::Source;
+use cbor4ii::serde::{Deserialize, described_values_are_read_back};
 use cbor4ii_vectors::{eof, mismatch, table};
-use cbor4ii_vectors_de::takes;
-use cbor4ii_vectors_de::typed::{Answer, BothShown, RowShown, comes_back, tries_shown};
+use cbor4ii_vectors_de::typed::{BothShown, RowShown, comes_back};
 use std::test::Fail;
-
-takes!(Moment);
 
 // The first is of RFC 8949, Appendix A.
 const MOMENTS: &[BothShown] = table! {
@@ -29,7 +28,7 @@ const MOMENTS_READ: &[RowShown] = table! {
 
 #[test]
 fn moments_are_written_and_read(rt: HostRuntime) -> Result<(), Fail> {
-    tries_shown::<Answer<Moment>>(rt.alloc(), MOMENTS, MOMENTS_READ, &[])
+    tries_recipe(rt.alloc(), "Moment", MOMENTS, MOMENTS_READ, &[])
 }
 
 #[test]

@@ -1,13 +1,11 @@
 //! Rows of a type that holds values of its own kind.
 use crate::nest::Nest;
+use crate::recipes::tries_recipe;
+use cbor4ii::dec::Source;
+use cbor4ii::serde::Deserialize;
 use cbor4ii_vectors::{eof, mismatch, no_step, table};
-use cbor4ii_vectors_de::takes;
-use cbor4ii_vectors_de::typed::{
-    Answer, BothShown, RowShown, RowShownWithin, come_back, tries_shown,
-};
+use cbor4ii_vectors_de::typed::{BothShown, RowShown, RowShownWithin, come_back};
 use std::test::Fail;
-
-takes!(Nest);
 
 const TWO_LISTS: &str =
     "Is(Nest { inner: [Nest { inner: [] }, Nest { inner: [Nest { inner: [] }] }] })";
@@ -29,7 +27,7 @@ const NESTS_WITHIN: &[RowShownWithin] = table! {
 
 #[test]
 fn lists_in_lists_are_written_and_read(rt: HostRuntime) -> Result<(), Fail> {
-    tries_shown::<Answer<Nest>>(rt.alloc(), NESTS_BOTH, NESTS, NESTS_WITHIN)
+    tries_recipe(rt.alloc(), "Nest", NESTS_BOTH, NESTS, NESTS_WITHIN)
 }
 
 const INSIDE: &[BothShown] = table! {

@@ -1,14 +1,12 @@
 //! Rows of a struct over a type parameter.
 use crate::meters::Meters;
 use crate::page::Page;
+use crate::recipes::tries_recipe;
+use cbor4ii::dec::Source;
+use cbor4ii::serde::Deserialize;
 use cbor4ii_vectors::{mismatch, no_step, table};
-use cbor4ii_vectors_de::takes;
-use cbor4ii_vectors_de::typed::{
-    Answer, BothShown, RowShown, RowShownWithin, comes_back, tries_shown,
-};
+use cbor4ii_vectors_de::typed::{BothShown, RowShown, RowShownWithin, comes_back};
 use std::test::Fail;
-
-takes!(Page<Meters>);
 
 const LAST: &[u8] = b"\xa3\x65total\x02\x67entries\x82\x05\x17\x64next\xf6";
 
@@ -40,7 +38,7 @@ const PAGES_WITHIN: &[RowShownWithin] = table! {
 
 #[test]
 fn pages_are_written_and_read(rt: HostRuntime) -> Result<(), Fail> {
-    tries_shown::<Answer<Page<Meters>>>(rt.alloc(), PAGES_BOTH, PAGES, PAGES_WITHIN)
+    tries_recipe(rt.alloc(), "Page<Meters>", PAGES_BOTH, PAGES, PAGES_WITHIN)
 }
 
 const PAGE_OF_PAGES: &[u8] = b"\xa3\x65total\x01\x67entries\x81\

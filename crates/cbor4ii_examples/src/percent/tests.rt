@@ -1,12 +1,11 @@
 //! Rows of a newtype with a test.
 use crate::percent::Percent;
-use cbor4ii::serde::described_values_are_read_back;
+use crate::recipes::tries_recipe;
+use cbor4ii::dec::Source;
+use cbor4ii::serde::{Deserialize, described_values_are_read_back};
 use cbor4ii_vectors::{eof, mismatch, table};
-use cbor4ii_vectors_de::takes;
-use cbor4ii_vectors_de::typed::{Answer, BothShown, RowShown, comes_back, tries_shown};
+use cbor4ii_vectors_de::typed::{BothShown, RowShown, comes_back};
 use std::test::Fail;
-
-takes!(Percent);
 
 const PERCENTS: &[BothShown] = table! {
     (b"\x00", "Is(Percent { value: 0 })"),
@@ -29,7 +28,7 @@ const NO_PERCENTS: &[RowShown] = table! {
 
 #[test]
 fn percents_are_written_and_read(rt: HostRuntime) -> Result<(), Fail> {
-    tries_shown::<Answer<Percent>>(rt.alloc(), PERCENTS, NO_PERCENTS, &[])
+    tries_recipe(rt.alloc(), "Percent", PERCENTS, NO_PERCENTS, &[])
 }
 
 #[test]

@@ -4,20 +4,17 @@ ghost use Rattle.std.specs.Prelude.{◌∷◌, [], codes};
 ghost use Rattle.cbor4ii_ser.specs.Item.{field, struct_encoding};
 
 use crate::point::{Point, point_is_read_back};
+use crate::recipes::{reads_recipe, tries_recipe};
 use cbor4ii::dec::Source;
 use cbor4ii::enc::Write;
 use cbor4ii::error::StaticStr;
-use cbor4ii::serde::{Deserializer, EncodeError, Optional, Required, Serialize, Serializer};
-use cbor4ii_vectors::{eof, mismatch, no_step, table};
-use cbor4ii_vectors_de::takes;
-use cbor4ii_vectors_de::typed::{
-    Answer, BothShown, Got, RowShown, RowShownWithin, Take, comes_back, reads_all_shown,
-    tries_shown,
+use cbor4ii::serde::{
+    Deserialize, Deserializer, EncodeError, Optional, Required, Serialize, Serializer, Typed,
 };
+use cbor4ii_vectors::{eof, mismatch, no_step, table};
+use cbor4ii_vectors_de::typed::{BothShown, Got, RowShown, RowShownWithin, comes_back};
 use std::alloc::Global;
 use std::test::Fail;
-
-takes!(Point);
 
 // The README's example, there and back.
 #[test]
@@ -82,12 +79,12 @@ const POINTS_WITHIN: &[RowShownWithin] = table! {
 #[test]
 fn points_are_written_and_read(rt: HostRuntime) -> Result<(), Fail> {
     let alloc = rt.alloc();
-    tries_shown::<Answer<Point>>(alloc, POINTS, POINTS_READ, POINTS_WITHIN)
+    tries_recipe(alloc, "Point", POINTS, POINTS_READ, POINTS_WITHIN)
 }
 
 /// A struct of four fields, one of which is a struct itself.
 #[derive(Debug, PartialEq, Drop)]
-struct Whole {
+pub struct Whole {
     a: u8,
     b: Option<u8>,
     c: Vec<u8>,
@@ -109,8 +106,10 @@ impl Serialize for Whole {
 
 const MISSING: [StaticStr; 4] = ["a field is missing"; 4];
 
-impl Take for Whole {
-    fn take<S: Source>(alloc: Global, de: &mut Deserializer<S>) -> Got<Whole, S> {
+impl Typed for Whole {}
+
+impl<S: Source> Deserialize<S> for Whole {
+    fn deserialize(alloc: Global, de: &mut Deserializer<S>) -> Got<Whole, S> {
         let names = ["a", "b", "c", "d"];
         let presences = (Required, (Required, (Required, (Required, ()))));
         let (a, (b, (c, (d, ())))) = de.deserialize_fields(
@@ -122,10 +121,12 @@ impl Take for Whole {
 
 /// A type that reads `Whole` and does not know c.
 #[derive(Debug, PartialEq, Drop)]
-struct WithoutC(u8, Option<u8>, Point);
+pub struct WithoutC(u8, Option<u8>, Point);
 
-impl Take for WithoutC {
-    fn take<S: Source>(alloc: Global, de: &mut Deserializer<S>) -> Got<WithoutC, S> {
+impl Typed for WithoutC {}
+
+impl<S: Source> Deserialize<S> for WithoutC {
+    fn deserialize(alloc: Global, de: &mut Deserializer<S>) -> Got<WithoutC, S> {
         let names = ["a", "b", "d"];
         let presences = (Required, (Required, (Required, ())));
         let (a, (b, (d, ()))) = de.deserialize_fields(alloc, "Whole", &names, &MISSING, presences)?;
@@ -135,10 +136,12 @@ impl Take for WithoutC {
 
 /// A type that reads `Whole`, does not know d, and knows e, which may be missing.
 #[derive(Debug, PartialEq, Drop)]
-struct WithoutD(u8, Vec<u8>, Option<u8>);
+pub struct WithoutD(u8, Vec<u8>, Option<u8>);
 
-impl Take for WithoutD {
-    fn take<S: Source>(alloc: Global, de: &mut Deserializer<S>) -> Got<WithoutD, S> {
+impl Typed for WithoutD {}
+
+impl<S: Source> Deserialize<S> for WithoutD {
+    fn deserialize(alloc: Global, de: &mut Deserializer<S>) -> Got<WithoutD, S> {
         let names = ["a", "c", "e"];
         let presences = (Required, (Required, (Optional, ())));
         let (a, (c, (e, ()))) = de.deserialize_fields(alloc, "Whole", &names, &MISSING, presences)?;
@@ -168,7 +171,7 @@ const WITHOUT_D: &[RowShown] = table! {
 #[test]
 fn fields_that_a_type_does_not_know_are_skipped(rt: HostRuntime) -> Result<(), Fail> {
     let alloc = rt.alloc();
-    tries_shown::<Answer<Whole>>(alloc, WHOLES, WHOLES_READ, &[])?;
-    reads_all_shown::<Answer<WithoutC>>(alloc, WITHOUT_C, &[])?;
-    reads_all_shown::<Answer<WithoutD>>(alloc, WITHOUT_D, &[])
+    tries_recipe(alloc, "Whole", WHOLES, WHOLES_READ, &[])?;
+    reads_recipe(alloc, "WithoutC", WITHOUT_C, &[])?;
+    reads_recipe(alloc, "WithoutD", WITHOUT_D, &[])
 }

@@ -1,13 +1,11 @@
 //! Rows of a struct that is written as an array.
 use crate::reading::Reading;
+use crate::recipes::tries_recipe;
+use cbor4ii::dec::Source;
+use cbor4ii::serde::Deserialize;
 use cbor4ii_vectors::{eof, mismatch, no_step, require_length, table};
-use cbor4ii_vectors_de::takes;
-use cbor4ii_vectors_de::typed::{
-    Answer, BothShown, RowShown, RowShownWithin, comes_back, tries_shown,
-};
+use cbor4ii_vectors_de::typed::{BothShown, RowShown, RowShownWithin, comes_back};
 use std::test::Fail;
-
-takes!(Reading);
 
 const NOTED: &str =
     "Is(Reading { sensor: 7, time: 256, mean: -1, note: Some(\"a\"), samples: [] })";
@@ -45,7 +43,7 @@ const READINGS_WITHIN: &[RowShownWithin] = table! {
 #[test]
 fn readings_are_written_and_read(rt: HostRuntime) -> Result<(), Fail> {
     let alloc = rt.alloc();
-    tries_shown::<Answer<Reading>>(alloc, READINGS, READINGS_READ, READINGS_WITHIN)
+    tries_recipe(alloc, "Reading", READINGS, READINGS_READ, READINGS_WITHIN)
 }
 
 #[test]

@@ -1,11 +1,10 @@
 //! Rows of a struct of which a field is left out where it is none.
-use crate::reply::Reply;
+use crate::recipes::tries_recipe;
+use cbor4ii::dec::Source;
+use cbor4ii::serde::Deserialize;
 use cbor4ii_vectors::{mismatch, table};
-use cbor4ii_vectors_de::takes;
-use cbor4ii_vectors_de::typed::{Answer, BothShown, RowShown, tries_shown};
+use cbor4ii_vectors_de::typed::{BothShown, RowShown};
 use std::test::Fail;
-
-takes!(Reply);
 
 const REPLIES_BOTH: &[BothShown] = table! {
     (b"\xa1\x66status\x18\xc8", "Is(Reply { status: 200, reason: None, retry: None })"),
@@ -33,5 +32,5 @@ const REPLIES: &[RowShown] = table! {
 
 #[test]
 fn a_field_is_left_out_where_it_is_none(rt: HostRuntime) -> Result<(), Fail> {
-    tries_shown::<Answer<Reply>>(rt.alloc(), REPLIES_BOTH, REPLIES, &[])
+    tries_recipe(rt.alloc(), "Reply", REPLIES_BOTH, REPLIES, &[])
 }

@@ -1,11 +1,10 @@
 //! Rows of a struct that is written part by part.
-use crate::sample::Sample;
+use crate::recipes::reads_recipe;
+use cbor4ii::dec::Source;
+use cbor4ii::serde::Deserialize;
 use cbor4ii_vectors::{mismatch, no_step, table};
-use cbor4ii_vectors_de::takes;
-use cbor4ii_vectors_de::typed::{Answer, RowShown, RowShownWithin, reads_all_shown};
+use cbor4ii_vectors_de::typed::{RowShown, RowShownWithin};
 use std::test::Fail;
-
-takes!(Sample);
 
 const WITHOUT_NOTE: &str = "Is(Sample { sensor: \"t1\", value: -100, note: None })";
 
@@ -28,5 +27,5 @@ const SAMPLES_WITHIN: &[RowShownWithin] = table! {
 
 #[test]
 fn fields_may_come_in_any_order(rt: HostRuntime) -> Result<(), Fail> {
-    reads_all_shown::<Answer<Sample>>(rt.alloc(), SAMPLES, SAMPLES_WITHIN)
+    reads_recipe(rt.alloc(), "Sample", SAMPLES, SAMPLES_WITHIN)
 }

@@ -1,16 +1,15 @@
 //! Rows of settings, and of the bytes at which their reading fails.
+use crate::recipes::reads_recipe;
 use crate::settings::{Settings, read_settings};
+use cbor4ii::dec::Source;
 use cbor4ii::error::DecodeError::{Eof, Mismatch};
 use cbor4ii::error::WholeError::{Decode, Trailing};
 use cbor4ii::error::{Len, Never, WholeError};
-use cbor4ii::serde::DecodeError;
 use cbor4ii::serde::DecodeError::{Core, Custom};
+use cbor4ii::serde::{DecodeError, Deserialize};
 use cbor4ii_vectors::table;
-use cbor4ii_vectors_de::takes;
-use cbor4ii_vectors_de::typed::{Answer, RowShown, comes_back, reads_all_shown};
+use cbor4ii_vectors_de::typed::{RowShown, comes_back};
 use std::test::Fail;
-
-takes!(Settings);
 
 const ALL: &[u8] = b"\xa8\x64host\x61a\x64port\x01\x67verbose\xf5\x67workers\x02\x65cache\x03\
 \x65proxy\x61b\x67plugins\x81\x61c\x68greeting\x61d";
@@ -53,7 +52,7 @@ const SETTINGS: &[RowShown] = table! {
 
 #[test]
 fn what_is_not_set_has_a_default(rt: HostRuntime) -> Result<(), Fail> {
-    reads_all_shown::<Answer<Settings>>(rt.alloc(), SETTINGS, &[])
+    reads_recipe(rt.alloc(), "Settings", SETTINGS, &[])
 }
 
 type Row = (&'static [u8], usize, WholeError<DecodeError<Never>>);

@@ -1,19 +1,14 @@
 //! Rows of an enum that holds values of its own kind.
+use crate::recipes::{reads_recipe, tries_recipe};
 use crate::shape::Shape;
 use cbor4ii::serde::{described_values_are_read_back, from_slice, to_vec};
 use cbor4ii_vectors::compared::same;
 use cbor4ii_vectors::rows::Want;
 use cbor4ii_vectors::{eof, mismatch, no_step, require_length, table, unsupported};
-use cbor4ii_vectors_de::takes;
-use cbor4ii_vectors_de::typed::{
-    Answer, BothShown, RowShown, RowShownWithin, comes_back, is_rejected, reads_all_shown,
-    tries_shown,
-};
+use cbor4ii_vectors_de::typed::{BothShown, RowShown, RowShownWithin, comes_back, is_rejected};
 use std::alloc::{AllocError, Global};
 use std::collections::TryReserveError;
 use std::test::Fail;
-
-takes!(Shape);
 
 const SHAPES: &[BothShown] = table! {
     (b"\xa1\x66Circle\x05", "Is(Circle(5))"),
@@ -24,13 +19,15 @@ const SHAPES: &[BothShown] = table! {
 };
 
 // An enum of the same variants, as one call reads it: what is inside are shapes.
-mod described {
+pub mod described {
     use crate::shape;
     use cbor4ii::dec::Source;
     use cbor4ii::error::Never;
     use cbor4ii::serde::Choice::{self, First, Other};
-    use cbor4ii::serde::{Deserializer, FieldWords, Holds, HoldsFields, Once, Otherwise, Required};
-    use cbor4ii_vectors_de::typed::{Got, Take};
+    use cbor4ii::serde::{
+        Deserialize, Deserializer, FieldWords, Holds, HoldsFields, Once, Otherwise, Required, Typed,
+    };
+    use cbor4ii_vectors_de::typed::Got;
     use std::alloc::Global;
     use std::marker::PhantomData;
 
@@ -59,8 +56,10 @@ mod described {
         }
     }
 
-    impl Take for Shape {
-        fn take<S: Source>(alloc: Global, de: &mut Deserializer<S>) -> Got<Self, S> {
+    impl Typed for Shape {}
+
+    impl<S: Source> Deserialize<S> for Shape {
+        fn deserialize(alloc: Global, de: &mut Deserializer<S>) -> Got<Shape, S> {
             let variants = ["Circle", "Pair", "Framed"];
             let names = &["width", "inner"];
             let missing = &["a frame has one width", "a frame has one shape inside"];
@@ -154,11 +153,11 @@ const BESIDE: &[Beside] = table! {
 
 #[test]
 fn shapes_are_answered_as_a_described_enum(rt: HostRuntime) -> Result<(), Fail> {
-    reads_all_shown::<Answer<Shape>>(rt.alloc(), ACCEPTED, &[])?;
-    reads_all_shown::<Answer<described::Shape>>(rt.alloc(), ACCEPTED, &[])?;
+    reads_recipe(rt.alloc(), "Shape", ACCEPTED, &[])?;
+    reads_recipe(rt.alloc(), "described Shape", ACCEPTED, &[])?;
     for &(bytes, words, want, rest) in BESIDE {
-        reads_all_shown::<Answer<Shape>>(rt.alloc(), &[(bytes, Ok(words), b"")], &[])?;
-        reads_all_shown::<Answer<described::Shape>>(rt.alloc(), &[(bytes, want, rest)], &[])?;
+        reads_recipe(rt.alloc(), "Shape", &[(bytes, Ok(words), b"")], &[])?;
+        reads_recipe(rt.alloc(), "described Shape", &[(bytes, want, rest)], &[])?;
     }
     Ok(())
 }
@@ -186,7 +185,7 @@ const OTHERS_DESCRIBED: &[RowShown] = table! {
 
 #[test]
 fn a_value_keeps_less_than_its_bytes(rt: HostRuntime) -> Result<(), Fail> {
-    reads_all_shown::<Answer<described::Shape>>(rt.alloc(), OTHERS_DESCRIBED, &[])
+    reads_recipe(rt.alloc(), "described Shape", OTHERS_DESCRIBED, &[])
 }
 
 // A map takes two steps, and what is inside one more.
@@ -198,7 +197,7 @@ const WITHIN: &[RowShownWithin] = table! {
 
 #[test]
 fn shapes_are_written_and_read(rt: HostRuntime) -> Result<(), Fail> {
-    tries_shown::<Answer<Shape>>(rt.alloc(), SHAPES, OTHERS, WITHIN)
+    tries_recipe(rt.alloc(), "Shape", SHAPES, OTHERS, WITHIN)
 }
 
 #[test]

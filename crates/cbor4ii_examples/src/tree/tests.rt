@@ -1,11 +1,11 @@
 //! Rows of a struct that holds values of its own kind.
+use crate::recipes::reads_recipe;
 use crate::tree::Tree;
 use cbor4ii::serde::{described_values_are_read_back, from_slice, to_vec};
 use cbor4ii_vectors::compared::same;
 use cbor4ii_vectors::rows::{Want, writes};
 use cbor4ii_vectors::{mismatch, no_step, table, unsupported};
-use cbor4ii_vectors_de::takes;
-use cbor4ii_vectors_de::typed::{Answer, RowShown, come_back, is_rejected, reads_all_shown};
+use cbor4ii_vectors_de::typed::{RowShown, come_back, is_rejected};
 use cbor4ii_vectors_ser::typed::Typed;
 use std::alloc::Global;
 use std::collections::TryReserveError;
@@ -33,8 +33,6 @@ fn nodes_below_a_node_are_written(rt: HostRuntime) -> Result<(), Fail> {
     Ok(())
 }
 
-takes!(Tree);
-
 const TREE_SHOWN: &str = "Tree { id: 1, name: \"a\", children: [\
 Tree { id: 2, name: \"b\", children: [] }, Tree { id: 3, name: \"\", children: [] }] }";
 
@@ -44,11 +42,11 @@ fn a_tree_comes_back(rt: HostRuntime) -> Result<(), Fail> {
 }
 
 // A struct of the same fields, as one call reads it: its children are trees.
-mod described {
+pub mod described {
     use crate::tree;
     use cbor4ii::dec::Source;
-    use cbor4ii::serde::{Deserializer, Once, Required};
-    use cbor4ii_vectors_de::typed::{Got, Take};
+    use cbor4ii::serde::{Deserialize, Deserializer, Once, Required, Typed};
+    use cbor4ii_vectors_de::typed::Got;
     use std::alloc::Global;
 
     #[derive(Debug, Drop)]
@@ -58,8 +56,10 @@ mod described {
         pub children: Vec<tree::Tree>,
     }
 
-    impl Take for Tree {
-        fn take<S: Source>(alloc: Global, de: &mut Deserializer<S>) -> Got<Self, S> {
+    impl Typed for Tree {}
+
+    impl<S: Source> Deserialize<S> for Tree {
+        fn deserialize(alloc: Global, de: &mut Deserializer<S>) -> Got<Tree, S> {
             let names = ["id", "name", "children"];
             let missing = [
                 "a tree has one id",
@@ -93,8 +93,8 @@ Tree { id: 2, name: \"b\", children: [] }, Tree { id: 3, name: \"\", children: [
 
 #[test]
 fn trees_are_accepted_as_a_described_struct(rt: HostRuntime) -> Result<(), Fail> {
-    reads_all_shown::<Answer<Tree>>(rt.alloc(), TREES, &[])?;
-    reads_all_shown::<Answer<described::Tree>>(rt.alloc(), TREES, &[])
+    reads_recipe(rt.alloc(), "Tree", TREES, &[])?;
+    reads_recipe(rt.alloc(), "described Tree", TREES, &[])
 }
 
 const ONE_ID: &str = "Custom(\"a tree has one id\")";
@@ -169,8 +169,8 @@ const REJECTED: &[Beside] = table! {
 #[test]
 fn trees_are_rejected_as_a_described_struct(rt: HostRuntime) -> Result<(), Fail> {
     for &(bytes, words, want, rest) in REJECTED {
-        reads_all_shown::<Answer<Tree>>(rt.alloc(), &[(bytes, Ok(words), b"")], &[])?;
-        reads_all_shown::<Answer<described::Tree>>(rt.alloc(), &[(bytes, want, rest)], &[])?;
+        reads_recipe(rt.alloc(), "Tree", &[(bytes, Ok(words), b"")], &[])?;
+        reads_recipe(rt.alloc(), "described Tree", &[(bytes, want, rest)], &[])?;
     }
     Ok(())
 }
@@ -191,8 +191,8 @@ fn a_value_keeps_less_than_its_bytes(rt: HostRuntime) -> Result<(), Fail> {
     let bignum = (BIGNUM, Err(mismatch!("u64", 0xc2)), b"\x41\x05".as_slice());
     let here = [(BIGNUM, Ok(LEAF), b"".as_slice()), tagged];
     let described = [bignum, (TAGGED, Ok(LEAF), b"".as_slice())];
-    reads_all_shown::<Answer<Tree>>(rt.alloc(), &here, &[])?;
-    reads_all_shown::<Answer<described::Tree>>(rt.alloc(), &described, &[])
+    reads_recipe(rt.alloc(), "Tree", &here, &[])?;
+    reads_recipe(rt.alloc(), "described Tree", &described, &[])
 }
 
 const NODE: &[u8] = b"\xa3\x62id\x01\x64name\x60\x68children\x81";

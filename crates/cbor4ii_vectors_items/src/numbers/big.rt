@@ -1,16 +1,17 @@
 //! Rows of integers of 128 bits: those of one head, bignums (RFC 8949 section 3.4.3), and errors.
 use crate::numbers::signed::SIGNED_INTEGERS;
 use crate::numbers::unsigned::UNSIGNED_INTEGERS;
-use cbor4ii_vectors::rows::{Row, reads_rows, texts_go_both_ways, writes_in, writes_rows};
+use cbor4ii_vectors::items::{items_go_both_ways, reads_items};
+use cbor4ii_vectors::rows::{Called, writes_in, writes_rows};
 use cbor4ii_vectors::{cast_overflow, eof, length_overflow, mismatch, require_length, table};
 use std::test::Fail;
 
 #[test]
 fn integers_of_one_head(rt: HostRuntime) -> Result<(), Fail> {
     let alloc = rt.alloc();
-    texts_go_both_ways::<u128>(alloc, UNSIGNED_INTEGERS)?;
-    texts_go_both_ways::<i128>(alloc, UNSIGNED_INTEGERS)?;
-    texts_go_both_ways::<i128>(alloc, SIGNED_INTEGERS)
+    items_go_both_ways(alloc, "u128", UNSIGNED_INTEGERS)?;
+    items_go_both_ways(alloc, "i128", UNSIGNED_INTEGERS)?;
+    items_go_both_ways(alloc, "i128", SIGNED_INTEGERS)
 }
 
 // Bignums above 2^64-1, below -2^64, and the edges of i128.
@@ -36,34 +37,31 @@ const AFTER_SEVENTEEN: &[u8] =
 const TOO_GREAT: &[u8] =
     b"\xc2\x50\x80\x00\x00\x00\x00\x00\x00\x00\x00\x00\x00\x00\x00\x00\x00\x00";
 
-const U128: &[Row<u128>] = table! {
-    (ABOVE, Ok(18_446_744_073_709_551_616), b""),
-    (b"\xc2\x40", Ok(0), b""),
-    (b"\xc2\x42\x00\x05\x00", Ok(5), b"\x00"),
-    (b"\xd8\x02\x41\x05", Ok(5), b""),
-    (b"", Err(eof!("u128", 1)), b""),
-    (b"\x18", Err(eof!("u64", 1)), b""),
-    (b"\x20", Err(mismatch!("u128", 0x20)), b""),
-    (b"\xd9\x00\x02\x41\x05", Err(mismatch!("u128", 0xd9)), b"\x00\x02\x41\x05"),
-    (b"\xc3\x40", Err(mismatch!("u128::tag", 0x03)), b"\x40"),
-    (b"\xc2\x5f", Err(require_length!("u128::bytes")), b""),
-    (SEVENTEEN, Err(length_overflow!("u128::bytes", 17)), AFTER_SEVENTEEN),
-    (b"\xc2\x42\x01", Err(eof!("u128::bytes", 2)), b""),
-};
-
-const I128: &[Row<i128>] = table! {
-    (ABOVE, Ok(18_446_744_073_709_551_616), b""),
-    (BELOW, Ok(-18_446_744_073_709_551_617), b""),
-    (LEAST_OF_ONE_HEAD, Ok(-18_446_744_073_709_551_616), b""),
-    (GREATEST, Ok(i128::MAX), b""),
-    (LEAST, Ok(i128::MIN), b""),
-    (b"\xc3\x40", Ok(-1), b""),
-    (b"\xd8\x03\x41\x05", Ok(-6), b""),
-    (b"\x39\x00", Err(eof!("i128", 2)), b""),
-    (b"\xc4\x40", Err(mismatch!("i128::tag", 0x04)), b"\x40"),
-    (b"\xc2\x61\x05", Err(mismatch!("+i128::bytes", 0x61)), b"\x05"),
-    (b"\xc3\x41", Err(eof!("-i128::bytes", 1)), b""),
-    (TOO_GREAT, Err(cast_overflow!("i128")), b""),
+const U128: &[Called] = table! {
+    ("u128", ABOVE, Ok("18446744073709551616"), b""),
+    ("u128", b"\xc2\x40", Ok("0"), b""),
+    ("u128", b"\xc2\x42\x00\x05\x00", Ok("5"), b"\x00"),
+    ("u128", b"\xd8\x02\x41\x05", Ok("5"), b""),
+    ("u128", b"", Err(eof!("u128", 1)), b""),
+    ("u128", b"\x18", Err(eof!("u64", 1)), b""),
+    ("u128", b"\x20", Err(mismatch!("u128", 0x20)), b""),
+    ("u128", b"\xd9\x00\x02\x41\x05", Err(mismatch!("u128", 0xd9)), b"\x00\x02\x41\x05"),
+    ("u128", b"\xc3\x40", Err(mismatch!("u128::tag", 0x03)), b"\x40"),
+    ("u128", b"\xc2\x5f", Err(require_length!("u128::bytes")), b""),
+    ("u128", SEVENTEEN, Err(length_overflow!("u128::bytes", 17)), AFTER_SEVENTEEN),
+    ("u128", b"\xc2\x42\x01", Err(eof!("u128::bytes", 2)), b""),
+    ("i128", ABOVE, Ok("18446744073709551616"), b""),
+    ("i128", BELOW, Ok("-18446744073709551617"), b""),
+    ("i128", LEAST_OF_ONE_HEAD, Ok("-18446744073709551616"), b""),
+    ("i128", GREATEST, Ok("170141183460469231731687303715884105727"), b""),
+    ("i128", LEAST, Ok("-170141183460469231731687303715884105728"), b""),
+    ("i128", b"\xc3\x40", Ok("-1"), b""),
+    ("i128", b"\xd8\x03\x41\x05", Ok("-6"), b""),
+    ("i128", b"\x39\x00", Err(eof!("i128", 2)), b""),
+    ("i128", b"\xc4\x40", Err(mismatch!("i128::tag", 0x04)), b"\x40"),
+    ("i128", b"\xc2\x61\x05", Err(mismatch!("+i128::bytes", 0x61)), b"\x05"),
+    ("i128", b"\xc3\x41", Err(eof!("-i128::bytes", 1)), b""),
+    ("i128", TOO_GREAT, Err(cast_overflow!("i128")), b""),
 };
 
 // What is written, and in how many pushes.
@@ -78,8 +76,7 @@ const WRITTEN_I128: &[(i128, &[u8], usize)] = table! {
 #[test]
 fn bignums(rt: HostRuntime) -> Result<(), Fail> {
     let alloc = rt.alloc();
-    reads_rows(alloc, U128)?;
-    reads_rows(alloc, I128)?;
+    reads_items(alloc, U128)?;
     writes_in(alloc, &18_446_744_073_709_551_616u128, ABOVE, 3)?;
     writes_rows(alloc, WRITTEN_I128)
 }

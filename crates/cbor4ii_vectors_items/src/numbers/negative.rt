@@ -1,18 +1,16 @@
 //! Rows of negative integers, held as their arguments: the edges of each type, and errors.
 use cbor4ii_items::types::Negative;
-use cbor4ii_vectors::rows::{Row, reads_rows, texts_go_both_ways, writes_in};
+use cbor4ii_vectors::items::{items_go_both_ways, reads_items};
+use cbor4ii_vectors::rows::{Called, writes_in};
 use cbor4ii_vectors::{eof, mismatch, table};
 use std::test::Fail;
 
-const NEGATIVE_U8: &[Row<Negative<u8>>] = table! {
-    (b"\x38\xff", Ok(Negative(255)), b""),
-    (b"\x39\x00\x00", Err(mismatch!("-u8", 0x39)), b"\x00\x00"),
-};
-
-const NEGATIVE_U64: &[Row<Negative<u64>>] = table! {
-    (b"\x3b\xff\xff\xff\xff\xff\xff\xff\xff", Ok(Negative(u64::MAX)), b""),
-    (b"\x3a", Err(eof!("-u64", 4)), b""),
-    (b"\x00", Err(mismatch!("-u64", 0x00)), b""),
+const NEGATIVE_U8: &[Called] = table! {
+    ("Negative<u8>", b"\x38\xff", Ok("Negative(255)"), b""),
+    ("Negative<u8>", b"\x39\x00\x00", Err(mismatch!("-u8", 0x39)), b"\x00\x00"),
+    ("Negative<u64>", b"\x3b\xff\xff\xff\xff\xff\xff\xff\xff", Ok("Negative(18446744073709551615)"), b""),
+    ("Negative<u64>", b"\x3a", Err(eof!("-u64", 4)), b""),
+    ("Negative<u64>", b"\x00", Err(mismatch!("-u64", 0x00)), b""),
 };
 
 const NEGATIVE_U16: &[(&[u8], &str, usize)] = table! {
@@ -26,10 +24,9 @@ const NEGATIVE_U32: &[(&[u8], &str, usize)] = table! {
 #[test]
 fn negative_integers(rt: HostRuntime) -> Result<(), Fail> {
     let alloc = rt.alloc();
-    reads_rows(alloc, NEGATIVE_U8)?;
-    reads_rows(alloc, NEGATIVE_U64)?;
-    texts_go_both_ways::<Negative<u16>>(alloc, NEGATIVE_U16)?;
-    texts_go_both_ways::<Negative<u32>>(alloc, NEGATIVE_U32)
+    reads_items(alloc, NEGATIVE_U8)?;
+    items_go_both_ways(alloc, "Negative<u16>", NEGATIVE_U16)?;
+    items_go_both_ways(alloc, "Negative<u32>", NEGATIVE_U32)
 }
 
 #[test]

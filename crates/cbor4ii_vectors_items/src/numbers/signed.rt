@@ -1,5 +1,6 @@
 //! Rows of signed integers: RFC 8949 Appendix A, the edges of each type, and errors.
-use cbor4ii_vectors::rows::{Row, reads_rows, texts_go_both_ways, writes_in};
+use cbor4ii_vectors::items::{items_go_both_ways, reads_items};
+use cbor4ii_vectors::rows::{Called, writes_in};
 use cbor4ii_vectors::{cast_overflow, eof, mismatch, table};
 use std::test::Fail;
 
@@ -18,7 +19,7 @@ pub const SIGNED_INTEGERS: &[(&[u8], &str, usize)] = table! {
 
 #[test]
 fn signed_integers(rt: HostRuntime) -> Result<(), Fail> {
-    texts_go_both_ways::<i64>(rt.alloc(), SIGNED_INTEGERS)
+    items_go_both_ways(rt.alloc(), "i64", SIGNED_INTEGERS)
 }
 
 #[test]
@@ -29,33 +30,21 @@ fn written_signed_integers(rt: HostRuntime) -> Result<(), Fail> {
     writes_in(alloc, &-65536i32, b"\x39\xff\xff", 1)
 }
 
-const I8: &[Row<i8>] = table! {
-    (b"\x38\x7f", Ok(-128), b""),
-    (b"", Err(eof!("i8", 1)), b""),
-    (b"\x40\x00", Err(mismatch!("i8", 0x40)), b"\x40\x00"),
-    (b"\x38\x80", Err(cast_overflow!("-i8")), b""),
-    (b"\x18\x80\xff", Err(cast_overflow!("+i8")), b"\xff"),
-};
-
-const I16: &[Row<i16>] = table! {
-    (b"\x38\xff", Ok(-256), b""),
-    (b"\x1a\x00", Err(mismatch!("+i16", 0x1a)), b"\x00"),
-};
-
-const I32: &[Row<i32>] = table! {
-    (b"\x39\xff\xff", Ok(-65536), b""),
-    (b"\x3a\x00", Err(eof!("-i32", 4)), b""),
-};
-
-const I64: &[Row<i64>] = table! {
-    (b"\x3b\x80\x00\x00\x00\x00\x00\x00\x00", Err(cast_overflow!("-i64")), b""),
+const I8: &[Called] = table! {
+    ("i8", b"\x38\x7f", Ok("-128"), b""),
+    ("i8", b"", Err(eof!("i8", 1)), b""),
+    ("i8", b"\x40\x00", Err(mismatch!("i8", 0x40)), b"\x40\x00"),
+    ("i8", b"\x38\x80", Err(cast_overflow!("-i8")), b""),
+    ("i8", b"\x18\x80\xff", Err(cast_overflow!("+i8")), b"\xff"),
+    ("i16", b"\x38\xff", Ok("-256"), b""),
+    ("i16", b"\x1a\x00", Err(mismatch!("+i16", 0x1a)), b"\x00"),
+    ("i32", b"\x39\xff\xff", Ok("-65536"), b""),
+    ("i32", b"\x3a\x00", Err(eof!("-i32", 4)), b""),
+    ("i64", b"\x3b\x80\x00\x00\x00\x00\x00\x00\x00", Err(cast_overflow!("-i64")), b""),
 };
 
 #[test]
 fn signed_integers_by_type(rt: HostRuntime) -> Result<(), Fail> {
     let alloc = rt.alloc();
-    reads_rows(alloc, I8)?;
-    reads_rows(alloc, I16)?;
-    reads_rows(alloc, I32)?;
-    reads_rows(alloc, I64)
+    reads_items(alloc, I8)
 }

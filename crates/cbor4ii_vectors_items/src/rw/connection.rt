@@ -1,8 +1,8 @@
 //! What is read over a connection that receives some parts, and then ends or fails.
+use cbor4ii_items::decode::{Decodable, Decode};
 use cbor4ii_rw::error::StaticStr;
 use cbor4ii_vectors::compared::same;
 use cbor4ii_vectors::connection::{Connected, Connection};
-use cbor4ii_vectors::rows::ReadFrom;
 use std::alloc::Global;
 use std::fmt::{Debug, InlineText};
 use std::test::Fail;
@@ -51,12 +51,12 @@ fn over(
 }
 
 // What is read next, or the error, has this text.
-fn reads<T: ReadFrom + Debug + Drop>(
+fn reads<T: Decodable + Decode<Connected<Line>> + Debug + Drop>(
     alloc: Global,
     reader: &mut Connected<Line>,
     text: &str,
 ) -> Result<(), Fail> {
-    let got = T::read_from(alloc, reader);
+    let got = T::decode(alloc, reader);
     same(InlineText::<64>::of(format_args!("{got:?}")).as_str(), text)
 }
 

@@ -3,7 +3,7 @@ use crate::rw::shown::{fails, gives, shows, shows_each, takes};
 use cbor4ii_rw::io_reader::IoReader;
 use cbor4ii_rw::read::Source;
 use cbor4ii_vectors::compared::same;
-use cbor4ii_vectors::rows::{Want, reads_over};
+use cbor4ii_vectors::rows::reads_text_over;
 use cbor4ii_vectors::streams::FailingStream;
 use std::alloc::Global;
 use std::io::BufReader;
@@ -86,8 +86,7 @@ fn a_stream_goes_on_after_a_failure() -> Result<(), Fail> {
 const CHUNKS: &[u8] = b"\x7f\x65strea\x64ming\xff\x01";
 
 fn reads_chunks<S: Source>(alloc: Global, reader: &mut S) -> Result<(), Fail> {
-    let want: Want<String> = Ok(String::from_str(alloc, "streaming")?);
-    reads_over(alloc, reader, CHUNKS, &want, b"\x01")
+    reads_text_over::<String, _>(alloc, reader, CHUNKS, &Ok("\"streaming\""), b"\x01")
 }
 
 // A stream behind a buffer of std, whatever its capacity.

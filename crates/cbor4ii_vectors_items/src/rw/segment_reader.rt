@@ -1,11 +1,11 @@
 //! Slices that stand one after another: what is shown and lent of them, and rows over them.
-use crate::cow_rows::{Kind, decodes};
+use crate::cow_rows::Kind;
 use crate::rw::shown::{gives, shows, shows_each};
+use cbor4ii_items::decode::{Decodable, Decode};
 use cbor4ii_rw::read::Source;
 use cbor4ii_rw::segment_reader::SegmentReader;
 use cbor4ii_vectors::compared::same;
-use cbor4ii_vectors::items::Lent;
-use cbor4ii_vectors::rows::{ReadBy, Want, by_text, reads_over};
+use cbor4ii_vectors::rows::{Content, Trial, Want, reads_text_over};
 use cbor4ii_vectors::{eof, require_length, table};
 use std::alloc::Global;
 use std::fmt::Debug;
@@ -55,16 +55,15 @@ type Row = (
 
 fn reads_row<T>(alloc: Global, row: &Row) -> Result<(), Fail>
 where
-    T: ReadBy<SegmentReader<'static>> + Debug + Drop,
+    T: Decodable + Decode<SegmentReader<'static>> + Debug + Drop,
 {
     let (segments, bytes, want, rest) = row;
-    let mut reader = SegmentReader::new(segments);
-    reads_over(alloc, &mut reader, bytes, &by_text::<T>(alloc, want)?, rest)
+    reads_text_over::<T, _>(alloc, &mut SegmentReader::new(segments), bytes, want, rest)
 }
 
 fn reads_segments<T>(alloc: Global, rows: &[Row]) -> Result<(), Fail>
 where
-    T: ReadBy<SegmentReader<'static>> + Debug + Drop,
+    T: Decodable + Decode<SegmentReader<'static>> + Debug + Drop,
 {
     for row in rows {
         reads_row::<T>(alloc, row)?;
@@ -92,12 +91,12 @@ fn a_number_in_two_segments(rt: HostRuntime) -> Result<(), Fail> {
 }
 
 const LENT: &[Row] = table! {
-    (&[b"", b"\x62aa", b""], b"\x62aa", Ok("Lent(\"aa\")"), b""),
+    (&[b"", b"\x62aa", b""], b"\x62aa", Ok("\"aa\""), b""),
     (&[b"\x62a", b"a"], b"\x62aa", Err(require_length!("str", 1)), b"aa"),
-    (&[b"\x62", b"aa\x01"], b"\x62aa\x01", Ok("Lent(\"aa\")"), b"\x01"),
-    (&[b"\x62aa", b"\x01"], b"\x62aa\x01", Ok("Lent(\"aa\")"), b"\x01"),
+    (&[b"\x62", b"aa\x01"], b"\x62aa\x01", Ok("\"aa\""), b"\x01"),
+    (&[b"\x62aa", b"\x01"], b"\x62aa\x01", Ok("\"aa\""), b"\x01"),
     (&[b"\x64IE", b"", b"TF"], b"\x64IETF", Err(require_length!("str", 2)), b"IETF"),
-    (&[b"\x60", b"\x01"], b"\x60\x01", Ok("Lent(\"\")"), b"\x01"),
+    (&[b"\x60", b"\x01"], b"\x60\x01", Ok("\"\""), b"\x01"),
     (&[], b"", Err(eof!("str", 1)), b""),
     (&[b"", b""], b"", Err(eof!("str", 1)), b""),
 };
@@ -105,7 +104,7 @@ const LENT: &[Row] = table! {
 // A text is lent where it stands in one segment.
 #[test]
 fn texts_lent_of_segments(rt: HostRuntime) -> Result<(), Fail> {
-    reads_segments::<Lent<&'static str>>(rt.alloc(), LENT)
+    reads_segments::<&'static str>(rt.alloc(), LENT)
 }
 
 const OWNED: &[Row] = table! {
@@ -122,7 +121,7 @@ fn owned_texts_of_segments(rt: HostRuntime) -> Result<(), Fail> {
 }
 
 // Segments of a string, its bytes, its content, and whether that is borrowed from them.
-const BORROWED_OR_OWNED: &[(Kind, &[&[u8]], &[u8], &[u8], bool)] = table! {
+const BORROWED_OR_OWNED: &[(Kind, &'static [&'static [u8]], &'static [u8], &[u8], bool)] = table! {
     (Kind::Text, &[b"", b"\x62aa", b""], b"\x62aa", b"aa", true),
     (Kind::Text, &[b"\x62", b"aa"], b"\x62aa", b"aa", true),
     (Kind::Text, &[b"\x62a", b"a"], b"\x62aa", b"aa", false),
@@ -139,15 +138,9 @@ const BORROWED_OR_OWNED: &[(Kind, &[&[u8]], &[u8], &[u8], bool)] = table! {
 #[test]
 fn strings_borrowed_or_owned_of_segments(rt: HostRuntime) -> Result<(), Fail> {
     for &(kind, segments, bytes, content, is_borrowed) in BORROWED_OR_OWNED {
-        let mut reader = SegmentReader::new(segments);
-        decodes(
-            kind,
-            rt.alloc(),
-            &mut reader,
-            bytes,
-            Ok((content, is_borrowed)),
-            b"",
-        )?;
+        let want = Ok(Content::new(rt.alloc(), content, is_borrowed)?);
+        let trial = Trial::new(&kind, rt.alloc(), bytes, &want, b"");
+        trial.over(SegmentReader::new(segments))?;
     }
     Ok(())
 }

@@ -9,6 +9,7 @@ use cbor4ii_items::indefinite::is_break;
 use cbor4ii_items::types;
 use cbor4ii_rw::error::DecodeError;
 use cbor4ii_rw::read::Source;
+use cbor4ii_vectors::items::Items;
 use cbor4ii_vectors::rows::{ReadFrom, Row, reads_rows, writes_rows};
 use cbor4ii_vectors::{eof, mismatch, table};
 use std::alloc::Global;

@@ -1,9 +1,9 @@
 //! How much of a string is asked for at once, by a reader that lets a look ask for one byte alone.
-use cbor4ii_items::types::Bytes;
-use cbor4ii_vectors::asked::looks_at_most;
+use cbor4ii_vectors::asked::looks_at_most_by;
+use cbor4ii_vectors::items::Items;
 use cbor4ii_vectors::readers::Asked;
 use cbor4ii_vectors::repeated::repeated;
-use cbor4ii_vectors::rows::ReadFrom;
+use cbor4ii_vectors::rows::ByName;
 use cbor4ii_vectors::table;
 use std::alloc::Global;
 use std::test::Fail;
@@ -24,20 +24,22 @@ const TEXTS: &[&[u8]] = table! {
     b"\x7f\x61a\x7b\xff\xff\xff\xff\xff\xff\xff\xffab",
 };
 
-fn is_asked_in_parts<T: ReadFrom + Drop>(
+fn is_asked_in_parts(
     alloc: Global,
-    bytes: &[u8],
+    name: &str,
+    bytes: &'static [u8],
     is_read: bool,
 ) -> Result<(), Fail> {
+    let how = ByName::<Items>::new(alloc, name)?;
     let reader = Asked::new(bytes).refusing_above(AT_ONCE);
-    looks_at_most::<T>(alloc, reader, bytes, is_read, usize::MAX, usize::MAX)?;
+    looks_at_most_by::<String, _>(&how, alloc, reader, bytes, is_read, usize::MAX, usize::MAX)?;
     let reader = Asked::new(bytes).refusing_above(AT_ONCE).with_window(9);
-    looks_at_most::<T>(alloc, reader, bytes, is_read, usize::MAX, usize::MAX)
+    looks_at_most_by::<String, _>(&how, alloc, reader, bytes, is_read, usize::MAX, usize::MAX)
 }
 
-fn are_asked_in_parts<T: ReadFrom + Drop>(alloc: Global, rows: &[&[u8]]) -> Result<(), Fail> {
+fn are_asked_in_parts(alloc: Global, name: &str, rows: &[&'static [u8]]) -> Result<(), Fail> {
     for bytes in rows {
-        is_asked_in_parts::<T>(alloc, bytes, false)?;
+        is_asked_in_parts(alloc, name, bytes, false)?;
     }
     Ok(())
 }
@@ -45,8 +47,8 @@ fn are_asked_in_parts<T: ReadFrom + Drop>(alloc: Global, rows: &[&[u8]]) -> Resu
 #[test]
 fn a_false_length_is_asked_for_in_parts(rt: HostRuntime) -> Result<(), Fail> {
     let alloc = rt.alloc();
-    are_asked_in_parts::<Bytes<Vec<u8>>>(alloc, BYTE_STRINGS)?;
-    are_asked_in_parts::<String>(alloc, TEXTS)
+    are_asked_in_parts(alloc, "Bytes<Vec<u8>>", BYTE_STRINGS)?;
+    are_asked_in_parts(alloc, "String", TEXTS)
 }
 
 // 40,000 bytes, 0x9c40, all of which come.
@@ -54,7 +56,7 @@ fn a_false_length_is_asked_for_in_parts(rt: HostRuntime) -> Result<(), Fail> {
 fn a_long_string_is_asked_for_in_parts(rt: HostRuntime) -> Result<(), Fail> {
     let alloc = rt.alloc();
     let bytes = repeated(alloc, b"\x59\x9c\x40", b"a", 40_000, b"")?;
-    is_asked_in_parts::<Bytes<Vec<u8>>>(alloc, bytes, true)?;
+    is_asked_in_parts(alloc, "Bytes<Vec<u8>>", bytes, true)?;
     let text = repeated(alloc, b"\x79\x9c\x40", b"a", 40_000, b"")?;
-    is_asked_in_parts::<String>(alloc, text, true)
+    is_asked_in_parts(alloc, "String", text, true)
 }

@@ -24,36 +24,36 @@ fn a_borrowed_text(rt: HostRuntime) -> Result<(), Fail> {
 }
 
 const STRINGS: &[BorrowedRow] = table! {
-    (Text, b"\x60", "\"\"", b""),
-    (Text, b"\x61a", "\"a\"", b""),
-    (Text, b"\x62aa", "\"aa\"", b""),
-    (Text, b"\x64IETF", "\"IETF\"", b""),
-    (Text, b"\x62\xc3\xbc", "\"\u{fc}\"", b""),
-    (Text, b"\x63\xe6\xb0\xb4", "\"\u{6c34}\"", b""),
-    (Text, b"\x62\x22\x5c", "\"\\\"\\\\\"", b""),
-    (Text, b"\x64\xf0\x90\x85\x91", "\"\u{10151}\"", b""),
-    (Unchecked, b"\x60", "UncheckedStr([])", b""),
-    (Unchecked, b"\x61a", "UncheckedStr([97])", b""),
-    (Unchecked, b"\x64IETF", "UncheckedStr([73, 69, 84, 70])", b""),
-    (Unchecked, b"\x62\x22\x5c", "UncheckedStr([34, 92])", b""),
-    (Unchecked, b"\x62\xc3\xbc", "UncheckedStr([195, 188])", b""),
-    (Unchecked, b"\x63\xe6\xb0\xb4", "UncheckedStr([230, 176, 180])", b""),
-    (Unchecked, b"\x64\xf0\x90\x85\x91", "UncheckedStr([240, 144, 133, 145])", b""),
-    (Unchecked, b"\x61\xff", "UncheckedStr([255])", b""),
-    (Bytes, b"\x40", "Bytes([])", b""),
-    (Bytes, b"\x44\x01\x02\x03\x04", "Bytes([1, 2, 3, 4])", b""),
-    (Bytes, b"\x43123", "Bytes([49, 50, 51])", b""),
-    (Text, b"", eof!("str", 1), b""),
-    (Text, b"\x78", eof!("str", 1), b""),
-    (Text, b"\x41a", mismatch!("str", 0x41), b"a"),
-    (Text, b"\x7f\xff", mismatch!("str", 0x7f), b"\xff"),
-    (Text, b"\x61", require_length!("str", 0), b""),
-    (Text, b"\x63ab", require_length!("str", 2), b"ab"),
-    (Text, b"\x62\xff\xff\x01", require_utf8!("str"), b"\x01"),
-    (Text, b"\x63\xed\xa0\x80", require_utf8!("str"), b""),
-    (Bytes, b"\x5f\xff", mismatch!("bytes", 0x5f), b"\xff"),
-    (Bytes, b"\x42\x01", require_length!("bytes", 1), b"\x01"),
-    (Unchecked, b"\x7f\xff", mismatch!("str", 0x7f), b"\xff"),
+    (Text, b"\x60", Ok("\"\""), b""),
+    (Text, b"\x61a", Ok("\"a\""), b""),
+    (Text, b"\x62aa", Ok("\"aa\""), b""),
+    (Text, b"\x64IETF", Ok("\"IETF\""), b""),
+    (Text, b"\x62\xc3\xbc", Ok("\"\u{fc}\""), b""),
+    (Text, b"\x63\xe6\xb0\xb4", Ok("\"\u{6c34}\""), b""),
+    (Text, b"\x62\x22\x5c", Ok("\"\\\"\\\\\""), b""),
+    (Text, b"\x64\xf0\x90\x85\x91", Ok("\"\u{10151}\""), b""),
+    (Unchecked, b"\x60", Ok("UncheckedStr([])"), b""),
+    (Unchecked, b"\x61a", Ok("UncheckedStr([97])"), b""),
+    (Unchecked, b"\x64IETF", Ok("UncheckedStr([73, 69, 84, 70])"), b""),
+    (Unchecked, b"\x62\x22\x5c", Ok("UncheckedStr([34, 92])"), b""),
+    (Unchecked, b"\x62\xc3\xbc", Ok("UncheckedStr([195, 188])"), b""),
+    (Unchecked, b"\x63\xe6\xb0\xb4", Ok("UncheckedStr([230, 176, 180])"), b""),
+    (Unchecked, b"\x64\xf0\x90\x85\x91", Ok("UncheckedStr([240, 144, 133, 145])"), b""),
+    (Unchecked, b"\x61\xff", Ok("UncheckedStr([255])"), b""),
+    (Bytes, b"\x40", Ok("Bytes([])"), b""),
+    (Bytes, b"\x44\x01\x02\x03\x04", Ok("Bytes([1, 2, 3, 4])"), b""),
+    (Bytes, b"\x43123", Ok("Bytes([49, 50, 51])"), b""),
+    (Text, b"", Err(eof!("str", 1)), b""),
+    (Text, b"\x78", Err(eof!("str", 1)), b""),
+    (Text, b"\x41a", Err(mismatch!("str", 0x41)), b"a"),
+    (Text, b"\x7f\xff", Err(mismatch!("str", 0x7f)), b"\xff"),
+    (Text, b"\x61", Err(require_length!("str", 0)), b""),
+    (Text, b"\x63ab", Err(require_length!("str", 2)), b"ab"),
+    (Text, b"\x62\xff\xff\x01", Err(require_utf8!("str")), b"\x01"),
+    (Text, b"\x63\xed\xa0\x80", Err(require_utf8!("str")), b""),
+    (Bytes, b"\x5f\xff", Err(mismatch!("bytes", 0x5f)), b"\xff"),
+    (Bytes, b"\x42\x01", Err(require_length!("bytes", 1)), b"\x01"),
+    (Unchecked, b"\x7f\xff", Err(mismatch!("str", 0x7f)), b"\xff"),
 };
 
 #[test]
@@ -63,13 +63,13 @@ fn borrowed_strings(rt: HostRuntime) -> Result<(), Fail> {
 
 // A reader that lends one byte at a time lends the content of one byte, and no longer one.
 const BY_BYTE: &[BorrowedRow] = table! {
-    (Text, b"\x60", "\"\"", b""),
-    (Text, b"\x61a\x01", "\"a\"", b"\x01"),
-    (Text, b"\x62aa", require_length!("str", 1), b"aa"),
-    (Text, b"\x7f\xff", mismatch!("str", 0x7f), b"\xff"),
-    (Bytes, b"\x42\x01\x02", require_length!("bytes", 1), b"\x01\x02"),
-    (Texts, b"\x82\x60\x61a", "[\"\", \"a\"]", b""),
-    (Texts, b"\x82\x61a\x62bc", require_length!("str", 1), b"bc"),
+    (Text, b"\x60", Ok("\"\""), b""),
+    (Text, b"\x61a\x01", Ok("\"a\""), b"\x01"),
+    (Text, b"\x62aa", Err(require_length!("str", 1)), b"aa"),
+    (Text, b"\x7f\xff", Err(mismatch!("str", 0x7f)), b"\xff"),
+    (Bytes, b"\x42\x01\x02", Err(require_length!("bytes", 1)), b"\x01\x02"),
+    (Texts, b"\x82\x60\x61a", Ok("[\"\", \"a\"]"), b""),
+    (Texts, b"\x82\x61a\x62bc", Err(require_length!("str", 1)), b"bc"),
 };
 
 #[test]
@@ -79,10 +79,10 @@ fn borrowed_byte_by_byte(rt: HostRuntime) -> Result<(), Fail> {
 
 // The first fill lives as long as the input, and the second does not.
 const IN_TURN: &[BorrowedRow] = table! {
-    (Text, b"\x62aa\x01", "\"aa\"", b"\x01"),
-    (Texts, b"\x82\x61a\x61b", require_borrowed!("str"), b"b"),
-    (TextsToNumbers, b"\xa1\x61a\x01", "Map([(\"a\", 1)])", b""),
-    (TextsToNumbers, b"\xa2\x61a\x01\x60\x02", require_borrowed!("str"), b"\x02"),
+    (Text, b"\x62aa\x01", Ok("\"aa\""), b"\x01"),
+    (Texts, b"\x82\x61a\x61b", Err(require_borrowed!("str")), b"b"),
+    (TextsToNumbers, b"\xa1\x61a\x01", Ok("Map([(\"a\", 1)])"), b""),
+    (TextsToNumbers, b"\xa2\x61a\x01\x60\x02", Err(require_borrowed!("str")), b"\x02"),
 };
 
 #[test]
@@ -102,9 +102,9 @@ const CUT_BYTES: &[&str] = table! {
 
 // A string is lent where its content stands in one segment.
 const CUT: &[CutRow] = table! {
-    ((Text, b"\x64IETF\x01", "\"IETF\"", b"\x01"), 1, CUT_TEXTS),
-    ((Unchecked, b"\x78\x04IETF", "UncheckedStr([73, 69, 84, 70])", b""), 2, CUT_TEXTS),
-    ((Bytes, b"\x42\x01\x02\x03", "Bytes([1, 2])", b"\x03"), 1, CUT_BYTES),
+    ((Text, b"\x64IETF\x01", Ok("\"IETF\""), b"\x01"), 1, CUT_TEXTS),
+    ((Unchecked, b"\x78\x04IETF", Ok("UncheckedStr([73, 69, 84, 70])"), b""), 2, CUT_TEXTS),
+    ((Bytes, b"\x42\x01\x02\x03", Ok("Bytes([1, 2])"), b"\x03"), 1, CUT_BYTES),
 };
 
 #[test]
@@ -114,21 +114,21 @@ fn borrowed_in_two_segments(rt: HostRuntime) -> Result<(), Fail> {
 
 // What does not outlive the fill is lent to no one, not even when it is empty.
 const OF_SHORT_BYTES: &[BorrowedRow] = table! {
-    (Text, b"\x60", require_borrowed!("str"), b""),
-    (Text, b"\x61a", require_borrowed!("str"), b"a"),
-    (Text, b"", eof!("str", 1), b""),
-    (Text, b"\x7f\xff", mismatch!("str", 0x7f), b"\xff"),
-    (Unchecked, b"\x60", require_borrowed!("str"), b""),
-    (Unchecked, b"\x61a", require_borrowed!("str"), b"a"),
-    (Unchecked, b"", eof!("str", 1), b""),
-    (Unchecked, b"\x7f\xff", mismatch!("str", 0x7f), b"\xff"),
-    (Bytes, b"\x40", require_borrowed!("bytes"), b""),
-    (Bytes, b"\x41\x01", require_borrowed!("bytes"), b"\x01"),
-    (Texts, b"\x82\x61a\x61b", require_borrowed!("str"), b"a\x61b"),
-    (NumbersToTexts, b"\xa1\x01\x60", require_borrowed!("str"), b""),
-    (Tagged, b"\xc1\x61a", require_borrowed!("str"), b"a"),
-    (Optional, b"\x60\x00", require_borrowed!("str"), b"\x00"),
-    (OptionalInArray, b"\x81\x60", require_borrowed!("str"), b""),
+    (Text, b"\x60", Err(require_borrowed!("str")), b""),
+    (Text, b"\x61a", Err(require_borrowed!("str")), b"a"),
+    (Text, b"", Err(eof!("str", 1)), b""),
+    (Text, b"\x7f\xff", Err(mismatch!("str", 0x7f)), b"\xff"),
+    (Unchecked, b"\x60", Err(require_borrowed!("str")), b""),
+    (Unchecked, b"\x61a", Err(require_borrowed!("str")), b"a"),
+    (Unchecked, b"", Err(eof!("str", 1)), b""),
+    (Unchecked, b"\x7f\xff", Err(mismatch!("str", 0x7f)), b"\xff"),
+    (Bytes, b"\x40", Err(require_borrowed!("bytes")), b""),
+    (Bytes, b"\x41\x01", Err(require_borrowed!("bytes")), b"\x01"),
+    (Texts, b"\x82\x61a\x61b", Err(require_borrowed!("str")), b"a\x61b"),
+    (NumbersToTexts, b"\xa1\x01\x60", Err(require_borrowed!("str")), b""),
+    (Tagged, b"\xc1\x61a", Err(require_borrowed!("str")), b"a"),
+    (Optional, b"\x60\x00", Err(require_borrowed!("str")), b"\x00"),
+    (OptionalInArray, b"\x81\x60", Err(require_borrowed!("str")), b""),
 };
 
 #[test]

@@ -2,18 +2,27 @@
 use cbor4ii_items::types::{Bytes, UncheckedStr};
 use cbor4ii_rw::slice_reader::SliceReader;
 use cbor4ii_vectors::compared::same;
+use cbor4ii_vectors::items::{reads_items, reads_items_within};
 use cbor4ii_vectors::readers::TestReader;
-use cbor4ii_vectors::rows::{Row, RowWithin, reads_all, reads_texts, reads_texts_within};
+use cbor4ii_vectors::rows::{Called, CalledWithin, reads_all};
 use cbor4ii_vectors::{eof, no_step, require_length, table};
 use std::test::Fail;
 
-const CHUNKS_OF_TEXTS: &[Row<&str>] = table! {
-    (b"\x7f\xff", Ok("\"\""), b""),
-    (b"\x7f\x60\xff", Ok("\"\""), b""),
-    (b"\x7f\x65strea\x64ming\xff", Ok("\"streaming\""), b""),
-    (b"\x7f\x61\xc3\x61\xa9\xff", Ok("\"\u{e9}\""), b""),
-    (b"\x7f\x64test\x65test2\x65test3\xff", Ok("\"testtest2test3\""), b""),
-    (b"\x7f\x63123\x63456\xff", Ok("\"123456\""), b""),
+const CHUNKS_OF_TEXTS: &[Called] = table! {
+    ("String", b"\x7f\xff", Ok("\"\""), b""),
+    ("String", b"\x7f\x60\xff", Ok("\"\""), b""),
+    ("String", b"\x7f\x65strea\x64ming\xff", Ok("\"streaming\""), b""),
+    ("String", b"\x7f\x61\xc3\x61\xa9\xff", Ok("\"\u{e9}\""), b""),
+    ("String", b"\x7f\x64test\x65test2\x65test3\xff", Ok("\"testtest2test3\""), b""),
+    ("String", b"\x7f\x63123\x63456\xff", Ok("\"123456\""), b""),
+    ("UncheckedStr<Vec<u8>>", b"\x7f\xff", Ok("UncheckedStr([])"), b""),
+    ("UncheckedStr<Vec<u8>>", b"\x7f\x60\xff", Ok("UncheckedStr([])"), b""),
+    ("UncheckedStr<Vec<u8>>", b"\x7f\x65strea\x64ming\xff", Ok(STREAMING), b""),
+    ("UncheckedStr<Vec<u8>>", b"\x7f\x61\xc3\x61\xa9\xff", Ok("UncheckedStr([195, 169])"), b""),
+    ("UncheckedStr<Vec<u8>>", b"\x7f\x64test\x65test2\x65test3\xff", Ok(TESTS), b""),
+    ("UncheckedStr<Vec<u8>>", b"\x7f\x63123\x63456\xff", Ok("UncheckedStr([49, 50, 51, 52, 53, 54])"), b""),
+    ("UncheckedStr<Vec<u8>>", b"\x7f\x61\xff\xff", Ok("UncheckedStr([255])"), b""),
+    ("Bytes<Vec<u8>>", b"\x5f\x42\x01\x02\x43\x03\x04\x05\xff\x00", Ok("Bytes([1, 2, 3, 4, 5])"), b"\x00"),
 };
 
 const STREAMING: &str = "UncheckedStr([115, 116, 114, 101, 97, 109, 105, 110, 103])";
@@ -21,42 +30,26 @@ const STREAMING: &str = "UncheckedStr([115, 116, 114, 101, 97, 109, 105, 110, 10
 const TESTS: &str =
     "UncheckedStr([116, 101, 115, 116, 116, 101, 115, 116, 50, 116, 101, 115, 116, 51])";
 
-const CHUNKS_OF_UNCHECKED_TEXTS: &[Row<&str>] = table! {
-    (b"\x7f\xff", Ok("UncheckedStr([])"), b""),
-    (b"\x7f\x60\xff", Ok("UncheckedStr([])"), b""),
-    (b"\x7f\x65strea\x64ming\xff", Ok(STREAMING), b""),
-    (b"\x7f\x61\xc3\x61\xa9\xff", Ok("UncheckedStr([195, 169])"), b""),
-    (b"\x7f\x64test\x65test2\x65test3\xff", Ok(TESTS), b""),
-    (b"\x7f\x63123\x63456\xff", Ok("UncheckedStr([49, 50, 51, 52, 53, 54])"), b""),
-    (b"\x7f\x61\xff\xff", Ok("UncheckedStr([255])"), b""),
-};
-
-const CHUNKS_OF_BYTE_STRINGS: &[Row<&str>] = table! {
-    (b"\x5f\x42\x01\x02\x43\x03\x04\x05\xff\x00", Ok("Bytes([1, 2, 3, 4, 5])"), b"\x00"),
-};
-
 #[test]
 fn chunks(rt: HostRuntime) -> Result<(), Fail> {
     let alloc = rt.alloc();
-    reads_texts::<String>(alloc, CHUNKS_OF_TEXTS)?;
-    reads_texts::<UncheckedStr<Vec<u8>>>(alloc, CHUNKS_OF_UNCHECKED_TEXTS)?;
-    reads_texts::<Bytes<Vec<u8>>>(alloc, CHUNKS_OF_BYTE_STRINGS)
+    reads_items(alloc, CHUNKS_OF_TEXTS)
 }
 
-const STEPS: &[RowWithin<&str>] = table! {
-    (b"\x7f", 0, Err(eof!("break", 1)), b""),
-    (b"\x61a", 0, Ok("\"a\""), b""),
-    (b"\x7f\x61a", 0, Err(no_step!("str")), b"\x61a"),
-    (b"\x7f\xff", 0, Ok("\"\""), b""),
-    (b"\x7f\x61a\xff", 0, Err(no_step!("str")), b"\x61a\xff"),
-    (b"\x7f\x61a\xff", 1, Ok("\"a\""), b""),
-    (b"\x7f\x61a\x61b\xff", 1, Ok("\"ab\""), b""),
-    (b"\x7f\x7f\xff\xff", 1, Err(require_length!("str")), b"\xff\xff"),
+const STEPS: &[CalledWithin] = table! {
+    ("String", b"\x7f", 0, Err(eof!("break", 1)), b""),
+    ("String", b"\x61a", 0, Ok("\"a\""), b""),
+    ("String", b"\x7f\x61a", 0, Err(no_step!("str")), b"\x61a"),
+    ("String", b"\x7f\xff", 0, Ok("\"\""), b""),
+    ("String", b"\x7f\x61a\xff", 0, Err(no_step!("str")), b"\x61a\xff"),
+    ("String", b"\x7f\x61a\xff", 1, Ok("\"a\""), b""),
+    ("String", b"\x7f\x61a\x61b\xff", 1, Ok("\"ab\""), b""),
+    ("String", b"\x7f\x7f\xff\xff", 1, Err(require_length!("str")), b"\xff\xff"),
 };
 
 #[test]
 fn a_step_for_each_chunk(rt: HostRuntime) -> Result<(), Fail> {
-    reads_texts_within::<String>(rt.alloc(), STEPS)
+    reads_items_within(rt.alloc(), STEPS)
 }
 
 // In the tests below a decoder is the first that takes memory, so that each of its growths can be

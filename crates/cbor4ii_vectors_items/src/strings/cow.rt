@@ -1,18 +1,14 @@
 //! Rows of strings that are borrowed from the input where a reader lends them, and owned otherwise.
-use crate::cow_rows::{Kind, decode, decodes};
+use crate::cow_rows::Kind;
 use crate::strings::chunks::in_chunks;
-use cbor4ii_rw::error::{DecodeError, Never};
-use cbor4ii_rw::io_reader::IoReader;
 use cbor4ii_rw::slice_reader::SliceReader;
 use cbor4ii_vectors::compared::same;
 use cbor4ii_vectors::items::Lent;
 use cbor4ii_vectors::readers::TestReader;
-use cbor4ii_vectors::rows::{Want, reads_alike, reads_all, steps};
-use cbor4ii_vectors::streams::FailingStream;
+use cbor4ii_vectors::rows::{ByType, Content, Trial, Want, Way, reads_all};
 use cbor4ii_vectors::{eof, mismatch, require_length, require_utf8, table};
 use std::alloc::Global;
-use std::borrow::{CowSlice, CowStr};
-use std::fmt::InlineText;
+use std::borrow::CowStr;
 use std::test::Fail;
 
 // Who lends a string's content: no reader, one that lends all that is left, or one of a byte too.
@@ -23,123 +19,7 @@ enum Lender {
     ByByte,
 }
 
-// Over readers whose bytes do not outlive the fill.
-fn decodes_short(
-    kind: Kind,
-    alloc: Global,
-    bytes: &[u8],
-    want: Result<(&[u8], bool), &str>,
-    rest: &[u8],
-) -> Result<(), Fail> {
-    let mut short = TestReader::short(bytes, 1);
-    decodes(kind, alloc, &mut short, bytes, want, rest)?;
-    for most in [1, usize::MAX] {
-        let mut stream = IoReader::new(FailingStream::new(bytes, most, usize::MAX));
-        decodes(kind, alloc, &mut stream, bytes, want, rest)?;
-    }
-    Ok(())
-}
-
-// Over readers that lend all that is left.
-fn decodes_whole(
-    kind: Kind,
-    alloc: Global,
-    bytes: &[u8],
-    want: Result<(&[u8], bool), &str>,
-    rest: &[u8],
-) -> Result<(), Fail> {
-    decodes(kind, alloc, &mut SliceReader::new(bytes), bytes, want, rest)?;
-    decodes(
-        kind,
-        alloc,
-        &mut TestReader::unlimited(bytes),
-        bytes,
-        want,
-        rest,
-    )?;
-    let mut whole = TestReader::whole(bytes, 1);
-    decodes(kind, alloc, &mut whole, bytes, want, rest)
-}
-
-// Readers that fail at the first show, at the second, and so on until none is left to fail.
-fn fails_at_each_show(kind: Kind, alloc: Global, bytes: &[u8]) -> Result<(), Fail> {
-    for shows in 0..64 {
-        if !fails(
-            kind,
-            alloc,
-            TestReader::short(bytes, 1).failing_after(shows),
-            bytes,
-        )? {
-            return Ok(());
-        }
-    }
-    Err(Fail::new(format_args!("too many shows of {bytes:?}")))
-}
-
-// Whether the reader failed. Then the answer is its error, and else a value. An end of the bytes is
-// left, and the steps are as before.
-fn fails(
-    kind: Kind,
-    alloc: Global,
-    mut reader: TestReader<'_>,
-    bytes: &[u8],
-) -> Result<bool, Fail> {
-    let has_failed = match decode(kind, alloc, &mut reader) {
-        Ok(_) => false,
-        Err(text) => is_failure(&text, "Read(Failure)")?,
-    };
-    let is_kept = has_failed == (reader.failures() == 1)
-        && reader.steps() == Some(1)
-        && bytes.ends_with(reader.remaining());
-    if is_kept {
-        return Ok(has_failed);
-    }
-    Err(Fail::new(format_args!("not a failed show of {bytes:?}")))
-}
-
-// That the error is the reader's error, which has this text. Where memory was refused the row
-// says nothing.
-fn is_failure(rejection: &InlineText<128>, error: &str) -> Result<bool, Fail> {
-    let text = rejection.as_str();
-    if text == "OutOfMemory" {
-        return Err(Fail::from(DecodeError::<Never>::OutOfMemory));
-    }
-    if text == error {
-        return Ok(true);
-    }
-    Err(Fail::new(format_args!("{text} in the place of {error}")))
-}
-
-// A stream that fails at the first look, at the second, and so on until none is left to fail.
-fn fails_at_each_look(kind: Kind, alloc: Global, bytes: &[u8]) -> Result<(), Fail> {
-    for looks in 0..64 {
-        if !fails_at_look(kind, alloc, bytes, looks)? {
-            return Ok(());
-        }
-    }
-    Err(Fail::new(format_args!("too many looks of {bytes:?}")))
-}
-
-// Whether the stream failed. Then the answer is its error, and else a value. The steps are as
-// before, and the stream has lost what the reader over it took, and no byte more.
-fn fails_at_look(kind: Kind, alloc: Global, bytes: &[u8], looks: usize) -> Result<bool, Fail> {
-    let mut reader = IoReader::new(FailingStream::new(bytes, 2, looks));
-    let budget = steps(&mut reader);
-    let has_failed = match decode(kind, alloc, &mut reader) {
-        Ok(_) => false,
-        Err(text) => is_failure(&text, "Read(Kind(Other))")?,
-    };
-    let is_kept = steps(&mut reader) == budget;
-    let taken = reader.taken() as usize;
-    let stream = reader.into_inner();
-    let is_left = bytes.get(taken..) == Some(stream.remaining());
-    if is_kept && is_left && has_failed == stream.has_failed() {
-        return Ok(has_failed);
-    }
-    Err(Fail::new(format_args!("not a failed look {looks} of {bytes:?}")))
-}
-
-const READ: &[(Kind, &[u8], &[u8], Lender)] = table! {
+const READ: &[(Kind, &'static [u8], &[u8], Lender)] = table! {
     (Kind::Text, b"\x62aa", b"aa", Lender::Whole),
     (Kind::Text, b"\x60", b"", Lender::ByByte),
     (Kind::Text, b"\x7f\x61a\xff", b"a", Lender::Never),
@@ -155,43 +35,26 @@ const READ: &[(Kind, &[u8], &[u8], Lender)] = table! {
 fn decodes_lent(
     kind: Kind,
     alloc: Global,
-    bytes: &[u8],
+    bytes: &'static [u8],
     content: &[u8],
-    lent: Lender,
+    lender: Lender,
 ) -> Result<(), Fail> {
-    let whole = Ok((content, lent != Lender::Never));
-    decodes_whole(kind, alloc, bytes, whole, b"")?;
-    let mut wanted = TestReader::wanted(bytes, 1).waiting();
-    decodes(kind, alloc, &mut wanted, bytes, whole, b"")?;
-    decodes_by_byte(
-        kind,
-        alloc,
-        bytes,
-        Ok((content, lent == Lender::ByByte)),
-        b"",
-    )?;
-    decodes_short(kind, alloc, bytes, Ok((content, false)), b"")
-}
-
-// Over a reader that lends one byte at a time.
-fn decodes_by_byte(
-    kind: Kind,
-    alloc: Global,
-    bytes: &[u8],
-    want: Result<(&[u8], bool), &str>,
-    rest: &[u8],
-) -> Result<(), Fail> {
-    let mut long = TestReader::long(bytes, 1);
-    decodes(kind, alloc, &mut long, bytes, want, rest)
+    let want = Ok(Content::new(alloc, content, lender != Lender::Never)?);
+    let trial = Trial::new(&kind, alloc, bytes, &want, b"").within(1);
+    trial.lent()?;
+    trial.waits_for_nothing_after()?;
+    let want = Ok(Content::new(alloc, content, lender == Lender::ByByte)?);
+    Trial::new(&kind, alloc, bytes, &want, b"").over(TestReader::long(bytes, 1))?;
+    let want = Ok(Content::new(alloc, content, false)?);
+    Trial::new(&kind, alloc, bytes, &want, b"")
+        .within(1)
+        .copied()
 }
 
 #[test]
 fn borrowed_or_owned(rt: HostRuntime) -> Result<(), Fail> {
-    let alloc = rt.alloc();
-    for &(kind, bytes, content, lent) in READ {
-        decodes_lent(kind, alloc, bytes, content, lent)?;
-        fails_at_each_show(kind, alloc, bytes)?;
-        fails_at_each_look(kind, alloc, bytes)?;
+    for &(kind, bytes, content, lender) in READ {
+        decodes_lent(kind, rt.alloc(), bytes, content, lender)?;
     }
     Ok(())
 }
@@ -213,7 +76,7 @@ fn texts_alike(
     want: &Want<Lent<CowStr<'static, Global>>>,
     rest: &[u8],
 ) -> Result<(), Fail> {
-    reads_alike(alloc, bytes, want, rest)
+    Trial::new(&ByType, alloc, bytes, want, rest).over_each()
 }
 
 #[test]
@@ -224,7 +87,7 @@ fn rejected_texts(rt: HostRuntime) -> Result<(), Fail> {
     Ok(())
 }
 
-const REJECTED: &[(Kind, &[u8], &str, &[u8])] = table! {
+const REJECTED: &[(Kind, &'static [u8], &'static str, &[u8])] = table! {
     (Kind::Unchecked, b"\x40\x01", mismatch!("str", 0x40), b"\x01"),
     (Kind::Bytes, b"\x43\x01", eof!("bytes", 2), b""),
     (Kind::Bytes, b"\x5f\x5f\xff\xff", require_length!("bytes"), b"\xff\xff"),
@@ -232,11 +95,10 @@ const REJECTED: &[(Kind, &[u8], &str, &[u8])] = table! {
 
 #[test]
 fn rejected(rt: HostRuntime) -> Result<(), Fail> {
-    let alloc = rt.alloc();
     for &(kind, bytes, rejection, rest) in REJECTED {
-        decodes_whole(kind, alloc, bytes, Err(rejection), rest)?;
-        decodes_by_byte(kind, alloc, bytes, Err(rejection), rest)?;
-        decodes_short(kind, alloc, bytes, Err(rejection), rest)?;
+        Trial::new(&kind, rt.alloc(), bytes, &Err(rejection), rest)
+            .within(1)
+            .over_each()?;
     }
     Ok(())
 }
@@ -245,12 +107,12 @@ fn rejected(rt: HostRuntime) -> Result<(), Fail> {
 #[test]
 fn borrowed_and_owned_in_turn(rt: HostRuntime) -> Result<(), Fail> {
     let alloc = rt.alloc();
-    let bytes = b"\x62aa\x41\x01".as_slice();
-    let mut reader = TestReader::in_turn(bytes, 1);
-    let first = decode(Kind::Text, alloc, &mut reader);
-    same(matches!(first, Ok(CowSlice::Borrowed(b"aa"))), true)?;
-    let second = Ok((b"\x01".as_slice(), false));
-    decodes(Kind::Bytes, alloc, &mut reader, bytes, second, b"")
+    let reader = TestReader::in_turn(b"\x62aa\x41\x01", 1);
+    let (first, reader) = Kind::Text.read(alloc, reader);
+    same(first, Ok(Content::new(alloc, b"aa", true)?))?;
+    let (second, reader) = Kind::Bytes.read(alloc, reader);
+    same(second, Ok(Content::new(alloc, b"\x01", false)?))?;
+    same(reader.remaining(), b"")
 }
 
 // Each reader gives the same content, borrowed or owned.
@@ -270,6 +132,6 @@ fn texts_over_each_reader(rt: HostRuntime) -> Result<(), Fail> {
 fn texts_that_might_be_borrowed(rt: HostRuntime) -> Result<(), Fail> {
     let bytes = in_chunks(0x7f, 0x70);
     let mut slice = SliceReader::new(&bytes);
-    let text: Lent<CowStr<'_, Global>> = reads_all(rt.alloc(), &mut slice, &bytes)?;
-    same(text.0.as_bytes(), &[0x70; 16384])
+    let text: CowStr<'_, Global> = reads_all(rt.alloc(), &mut slice, &bytes)?;
+    same(text.as_bytes(), &[0x70; 16384])
 }

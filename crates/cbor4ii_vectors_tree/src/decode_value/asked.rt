@@ -9,6 +9,7 @@
 //! place of the first, and decides at once what it shows whole. A longer head takes no second one,
 //! and a whole head of an array, a map or a tag takes no look more.
 use crate::item::Item;
+use cbor4ii_items::decode::Decode;
 use cbor4ii_rw::error::DecodeError;
 use cbor4ii_rw::read::Source;
 use cbor4ii_tree::{Canonical, IgnoredAny, Value};
@@ -80,9 +81,9 @@ const ASKED: &[Row] = table! {
 // Over a reader that fails where more than `most` bytes are wanted, and has to have had no byte but
 // these; over one that lets a look ask for 4,096, and fails where more than that are wanted; and
 // over those that let it ask for fewer. What is read is read by each.
-fn asks_at_most<T: ReadFrom + Drop>(
+fn asks_at_most<T: ReadFrom>(
     alloc: Global,
-    bytes: &[u8],
+    bytes: &'static [u8],
     is_read: bool,
     most: usize,
     looks: Looks,
@@ -179,7 +180,7 @@ const INDEFINITE_ENDS: &[&[u8]] = table! {
     b"\x5f\x41",
 };
 
-fn ends_once<T: ReadFrom + Drop>(alloc: Global, rows: &[&[u8]]) -> Result<(), Fail> {
+fn ends_once<T: ReadFrom>(alloc: Global, rows: &[&'static [u8]]) -> Result<(), Fail> {
     for bytes in rows {
         for prefix in [1, usize::MAX] {
             ends::<T>(alloc, Asked::new(bytes).showing(prefix), bytes)?;
@@ -189,7 +190,7 @@ fn ends_once<T: ReadFrom + Drop>(alloc: Global, rows: &[&[u8]]) -> Result<(), Fa
     Ok(())
 }
 
-fn ends<T: ReadFrom + Drop>(alloc: Global, reader: Asked<'_>, bytes: &[u8]) -> Result<(), Fail> {
+fn ends<T: ReadFrom>(alloc: Global, reader: Asked<'static>, bytes: &[u8]) -> Result<(), Fail> {
     match asks::<T>(alloc, reader, bytes)? {
         (false, Asks { ends: 1, .. }) => Ok(()),
         (_, asks) => Err(Fail::new(format_args!("{asks:?} of {bytes:?}"))),
@@ -275,9 +276,9 @@ fn looks_shown(alloc: Global, rows: &[ShownRow]) -> Result<(), Fail> {
     Ok(())
 }
 
-fn looks_in_prefixes<T: ReadFrom + Drop>(
+fn looks_in_prefixes<T: ReadFrom>(
     alloc: Global,
-    bytes: &[u8],
+    bytes: &'static [u8],
     prefix: usize,
     looks: usize,
     more: usize,
@@ -305,16 +306,16 @@ const FALSE_LENGTHS: &[&[u8]] = table! {
     b"\xc1\x7b\xff\xff\xff\xff\xff\xff\xff\xff",
 };
 
-fn is_asked_in_parts<T: ReadFrom + Drop>(
+fn is_asked_in_parts<T: ReadFrom>(
     alloc: Global,
-    bytes: &[u8],
+    bytes: &'static [u8],
     is_read: bool,
 ) -> Result<(), Fail> {
     let reader = Asked::new(bytes).refusing_above(16_384);
     looks_at_most::<T>(alloc, reader, bytes, is_read, usize::MAX, usize::MAX)
 }
 
-fn are_asked_in_parts<T: ReadFrom + Drop>(alloc: Global) -> Result<(), Fail> {
+fn are_asked_in_parts<T: ReadFrom>(alloc: Global) -> Result<(), Fail> {
     for bytes in FALSE_LENGTHS {
         is_asked_in_parts::<T>(alloc, bytes, false)?;
     }
@@ -332,11 +333,8 @@ fn a_long_string_is_asked_for_in_parts(rt: HostRuntime) -> Result<(), Fail> {
 }
 
 // After a reference.
-fn read_after<S: Source>(
-    alloc: Global,
-    reader: &mut S,
-) -> Result<Item<Value>, DecodeError<S::Error>> {
-    Item::read_from(alloc, &mut &mut *reader)
+fn read_after<S: Source>(alloc: Global, reader: &mut S) -> Result<Value, DecodeError<S::Error>> {
+    Value::decode(alloc, &mut &mut *reader)
 }
 
 // A reader behind a reference hands on how many bytes a look may ask for.
