@@ -25,8 +25,8 @@ use cbor4ii::error::EncodeError;
 use cbor4ii::serde::{Deserialize, Deserializer};
 use cbor4ii_vectors::rows::{calls_rows, calls_rows_within};
 use cbor4ii_vectors_de::typed::{
-    Answer, BothShown, By, Got, RowShown, RowShownWithin, TypedCalls, TypedNames, goes_both_ways,
-    no_call, shows, written,
+    BothShown, By, Got, RowShown, RowShownWithin, TypedCalls, TypedNames, goes_both_ways, no_call,
+    shows, written,
 };
 use cbor4ii_vectors_ser::typed::spoil;
 use std::alloc::Global;
@@ -61,13 +61,17 @@ macro_rules! of_recipe {
     };
 }
 
+/// What is read, and no error in words.
+#[derive(Debug, Drop)]
+struct Is<T>(T);
+
 /// The types of these names.
 struct Recipes;
 
 impl TypedCalls for Recipes {
     fn make<S: Source>(name: &str, alloc: Global, de: &mut Deserializer<S>) -> Got<String, S> {
         match name {
-            "Enum by hand" => shows(alloc, Answer::Is(read_enum(alloc, de)?)),
+            "Enum by hand" => shows(alloc, Is(read_enum(alloc, de)?)),
             "WithoutC" => deserialized::<WithoutC, _>(alloc, de),
             "WithoutD" => deserialized::<WithoutD, _>(alloc, de),
             "described Shape" => deserialized::<shape::tests::described::Shape, _>(alloc, de),
@@ -81,7 +85,7 @@ fn deserialized<T: Deserialize<S> + Debug + Drop, S: Source>(
     alloc: Global,
     de: &mut Deserializer<S>,
 ) -> Got<String, S> {
-    shows(alloc, Answer::Is(T::deserialize(alloc, de)?))
+    shows(alloc, Is(T::deserialize(alloc, de)?))
 }
 
 impl TypedNames for Recipes {
