@@ -350,9 +350,9 @@ where
         self.over(stream(self.bytes, usize::MAX, usize::MAX, self.limit))
     }
 
-    /// Over a reader that shows bytes so and fails at the first show, at the second, and so on until
-    /// none is left to fail. It forgets what is left or does not. Where it does not fail the answer
-    /// is compared, or not.
+    /// Over a reader that shows bytes so and fails at the first show, at the second, and so on
+    /// until none is left to fail. It forgets what is left or does not. Where it does not fail the
+    /// answer is compared, or not.
     pub fn failing_at_each_show(&self, shown: Shown, is_compared: bool) -> Result<(), Fail> {
         for shows in 0..MOST_CALLS {
             let forgetting = failing(self.bytes, self.limit, shown, shows).forgetting();
@@ -410,8 +410,8 @@ where
         item.answered_by(TestReader::wanted(item.bytes, item.limit).waiting())
     }
 
-    // An item, over readers that show all that is left, or what is wanted. They fail, or wait, where
-    // it is not enough: no look asks for a byte that the item does not need, and it is read.
+    // An item, over readers that show all that is left, or what is wanted. They fail, or wait,
+    // where it is not enough: no look asks for a byte that the item does not need, and it is read.
     fn asks_whole_nothing_after(&self) -> Result<(), Fail> {
         if self.want.is_err() {
             return Ok(());
@@ -453,9 +453,9 @@ impl<T: PartialEq + Debug + Drop, R> Trial<'_, T, R> {
         self.over(SegmentReader::with_limit(segments, self.limit))
     }
 
-    /// Over a stream that shows at most so many bytes at a time, and fails at the first look, at the
-    /// second, and so on until none is left to fail. Where it does not fail the answer is compared,
-    /// or not.
+    /// Over a stream that shows at most so many bytes at a time, and fails at the first look, at
+    /// the second, and so on until none is left to fail. Where it does not fail the answer is
+    /// compared, or not.
     pub fn failing_at_each_look(&self, most: usize, is_compared: bool) -> Result<(), Fail>
     where
         R: Way<T, Stream>,

@@ -20,9 +20,11 @@ const CHUNKS_OF_TEXTS: &[Called] = table! {
     ("UncheckedStr<Vec<u8>>", b"\x7f\x65strea\x64ming\xff", Ok(STREAMING), b""),
     ("UncheckedStr<Vec<u8>>", b"\x7f\x61\xc3\x61\xa9\xff", Ok("UncheckedStr([195, 169])"), b""),
     ("UncheckedStr<Vec<u8>>", b"\x7f\x64test\x65test2\x65test3\xff", Ok(TESTS), b""),
-    ("UncheckedStr<Vec<u8>>", b"\x7f\x63123\x63456\xff", Ok("UncheckedStr([49, 50, 51, 52, 53, 54])"), b""),
+    ("UncheckedStr<Vec<u8>>", b"\x7f\x63123\x63456\xff",
+        Ok("UncheckedStr([49, 50, 51, 52, 53, 54])"), b""),
     ("UncheckedStr<Vec<u8>>", b"\x7f\x61\xff\xff", Ok("UncheckedStr([255])"), b""),
-    ("Bytes<Vec<u8>>", b"\x5f\x42\x01\x02\x43\x03\x04\x05\xff\x00", Ok("Bytes([1, 2, 3, 4, 5])"), b"\x00"),
+    ("Bytes<Vec<u8>>", b"\x5f\x42\x01\x02\x43\x03\x04\x05\xff\x00",
+        Ok("Bytes([1, 2, 3, 4, 5])"), b"\x00"),
 };
 
 const STREAMING: &str = "UncheckedStr([115, 116, 114, 101, 97, 109, 105, 110, 103])";
