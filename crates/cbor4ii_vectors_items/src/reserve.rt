@@ -12,7 +12,8 @@ const LENGTHS_WITHOUT_BYTES: &[Called] = table! {
     ("Bytes<Vec<u8>>", b"\x5b\xff\xff\xff\xff\xff\xff\xff\xff", Err(eof!("bytes", Big)), b""),
     ("Bytes<Vec<u8>>", b"\x5b\x00\x00\x7f\xff\xff\xff\xff\xff", Err(eof!("bytes", Big)), b""),
     ("Bytes<Vec<u8>>", b"\x5f\x5b\xff\xff\xff\xff\xff\xff\xff\xff", Err(eof!("bytes", Big)), b""),
-    ("Bytes<Vec<u8>>", b"\x5f\x41\x00\x5b\x00\x00\x7f\xff\xff\xff\xff\xff", Err(eof!("bytes", Big)), b""),
+    ("Bytes<Vec<u8>>", b"\x5f\x41\x00\x5b\x00\x00\x7f\xff\xff\xff\xff\xff",
+        Err(eof!("bytes", Big)), b""),
 };
 
 // A length that the bytes do not carry reserves no more than 16384 bytes, whatever it says: no

@@ -8,7 +8,8 @@ use std::test::Fail;
 const NEGATIVE_U8: &[Called] = table! {
     ("Negative<u8>", b"\x38\xff", Ok("Negative(255)"), b""),
     ("Negative<u8>", b"\x39\x00\x00", Err(mismatch!("-u8", 0x39)), b"\x00\x00"),
-    ("Negative<u64>", b"\x3b\xff\xff\xff\xff\xff\xff\xff\xff", Ok("Negative(18446744073709551615)"), b""),
+    ("Negative<u64>", b"\x3b\xff\xff\xff\xff\xff\xff\xff\xff",
+        Ok("Negative(18446744073709551615)"), b""),
     ("Negative<u64>", b"\x3a", Err(eof!("-u64", 4)), b""),
     ("Negative<u64>", b"\x00", Err(mismatch!("-u64", 0x00)), b""),
 };

@@ -44,7 +44,8 @@ const LETTERS: &str =
     "Map([(\"a\", \"A\"), (\"b\", \"B\"), (\"c\", \"C\"), (\"d\", \"D\"), (\"e\", \"E\")])";
 
 const TEXTS: &[Called] = table! {
-    ("Map<Vec<(String, String)>>", b"\xa5\x61a\x61A\x61b\x61B\x61c\x61C\x61d\x61D\x61e\x61E", Ok(LETTERS), b""),
+    ("Map<Vec<(String, String)>>", b"\xa5\x61a\x61A\x61b\x61B\x61c\x61C\x61d\x61D\x61e\x61E",
+        Ok(LETTERS), b""),
 };
 
 #[test]

@@ -48,7 +48,8 @@ const UNCHECKED_TEXTS: &[Called] = table! {
     ("UncheckedStr<Vec<u8>>", b"\x62\x22\x5c", Ok("UncheckedStr([34, 92])"), b""),
     ("UncheckedStr<Vec<u8>>", b"\x62\xc3\xbc", Ok("UncheckedStr([195, 188])"), b""),
     ("UncheckedStr<Vec<u8>>", b"\x63\xe6\xb0\xb4", Ok("UncheckedStr([230, 176, 180])"), b""),
-    ("UncheckedStr<Vec<u8>>", b"\x64\xf0\x90\x85\x91", Ok("UncheckedStr([240, 144, 133, 145])"), b""),
+    ("UncheckedStr<Vec<u8>>", b"\x64\xf0\x90\x85\x91",
+        Ok("UncheckedStr([240, 144, 133, 145])"), b""),
     ("UncheckedStr<Vec<u8>>", b"\x61\xff", Ok("UncheckedStr([255])"), b""),
 };
 
