@@ -171,8 +171,8 @@ impl Lent {
         trial.failing_at_each_look(1, true)
     }
 
-    /// A string whose content is all between its head and the rest: over a slice, over segments that
-    /// cut it at each place, and out of streams.
+    /// A string whose content is all between its head and the rest: over a slice, over segments
+    /// that cut it at each place, and out of streams.
     fn definite(&self, content: &'static [u8]) -> Result<(), Fail> {
         self.over(SliceReader::new(self.bytes), Ok((content, true)))?;
         let end = self.bytes.len().saturating_sub(self.rest.len());

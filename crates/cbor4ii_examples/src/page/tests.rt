@@ -23,7 +23,8 @@ const PAGES_BOTH: &[BothShown] = table! {
 
 // Entries may come first, and a page that has no next one may leave it out.
 const PAGES: &[RowShown] = table! {
-    (b"\xa2\x67entries\x80\x65total\x00", Ok("Is(Page { total: 0, entries: [], next: None })"), b""),
+    (b"\xa2\x67entries\x80\x65total\x00",
+        Ok("Is(Page { total: 0, entries: [], next: None })"), b""),
     (b"\xa2\x67entries\x81\x20\x65total\x00", Err(mismatch!("u32", 32)), b"\x65total\x00"),
     (b"\xa1\x65total\x00\x01", Ok("Custom(\"a page has one list of entries\")"), b"\x01"),
     (b"\xa2\x65total\x00\x65total\x00\x01", Ok("Custom(\"a page has one total\")"), b"\x01"),

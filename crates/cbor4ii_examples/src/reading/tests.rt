@@ -23,7 +23,8 @@ const READINGS_READ: &[RowShown] = table! {
     (b"\x98\x05\x18\x00\x18\x18\x05\xf7\x9f\x04\x19\x01\xf4\xff\x01", Ok(PLAIN), b"\x01"),
     // One too few, and one too many.
     (b"\x84\x07\x08\x20\xf6", Err(require_length!("tuple", 4)), b"\x07\x08\x20\xf6"),
-    (b"\x86\x07\x08\x20\xf6\x80\x00", Err(require_length!("tuple", 6)), b"\x07\x08\x20\xf6\x80\x00"),
+    (b"\x86\x07\x08\x20\xf6\x80\x00",
+        Err(require_length!("tuple", 6)), b"\x07\x08\x20\xf6\x80\x00"),
     (b"\x9f\x07\x08\x20\xf6\x80\xff", Err(require_length!("tuple")), b"\x07\x08\x20\xf6\x80\xff"),
     (b"\xa0\x00", Err(mismatch!("array", 0xa0)), b"\x00"),
     // In the place of a time, of the samples, and within them.
